@@ -1,0 +1,106 @@
+//! Times `vans_run` and the peer's `run` side by side: the best of several
+//! alternating rounds of each, and their ratio.
+
+use peer::bytes::bytes_of;
+use peer::run_call::{number_and_count, BUDGET, HEAP_WORDS};
+use peer::word::*;
+use peer::{proved, run_call};
+use std::hint::black_box;
+use std::time::Instant;
+
+const ROUNDS: u32 = 30;
+
+type Call = fn(&[u8], &mut [u8], &mut [u8], u32) -> u64;
+
+struct Work {
+    name: &'static str,
+    code: Vec<u8>,
+    heap: Vec<u8>,
+    start: Vec<u8>,
+    calls_in_a_round: u32,
+    /// The words each call acts on before it halts.
+    steps: u32,
+    /// What a figure is for: all steps of a call, or one.
+    per_step: bool,
+}
+
+fn main() {
+    println!("{:<40}{:>12}{:>12}{:>8}", "best, in nanoseconds", "vans_run", "peer", "ratio");
+    for work in [steps(), small_call(), full_heap_call()] {
+        let (proved, peer) = measure(&work);
+        println!("{:<40}{proved:>12.2}{peer:>12.2}{:>8.2}", work.name, proved / peer);
+    }
+}
+
+fn measure(work: &Work) -> (f64, f64) {
+    let (mut proved, mut peer) = (f64::INFINITY, f64::INFINITY);
+    for _ in 0..ROUNDS {
+        proved = proved.min(round(work, proved::vans_run));
+        peer = peer.min(round(work, run_call::run));
+    }
+    (proved, peer)
+}
+
+/// Nanoseconds for one figure's worth, over the calls of a round.
+fn round(work: &Work, call: Call) -> f64 {
+    let (mut heap, mut regs) = (work.heap.clone(), work.start.clone());
+    let begin = Instant::now();
+    for _ in 0..work.calls_in_a_round {
+        regs.copy_from_slice(&work.start);
+        let answer = call(black_box(&work.code), black_box(&mut heap), black_box(&mut regs), BUDGET);
+        assert_eq!(number_and_count(answer), (0, work.steps));
+    }
+    let parts = work.calls_in_a_round * if work.per_step { work.steps } else { 1 };
+    begin.elapsed().as_nanos() as f64 / f64::from(parts)
+}
+
+/// Arithmetic, load, store and bnz over sixteen words, close to the whole budget.
+fn steps() -> Work {
+    let code = [
+        build(LOAD, 2, 4, 0, 0),
+        build(ADD, 2, 2, 1, 0),
+        build(XOR, 3, 3, 2, 0),
+        build(STORE, 4, 3, 0, 0),
+        build(ADD_IMMEDIATE, 4, 4, 0, 1),
+        build(AND_IMMEDIATE, 4, 4, 0, 15),
+        build(SUB_IMMEDIATE, 1, 1, 0, 1),
+        build(BNZ, 0, 1, 0, 0),
+        build(HALT, 0, 0, 0, 0),
+    ];
+    let turns = 124_000;
+    let mut start = [0; 16];
+    start[1] = turns;
+    Work {
+        name: "one step of a loop of 8 words",
+        code: bytes_of(&code),
+        heap: vec![0; 4 * 16],
+        start: bytes_of(&start),
+        calls_in_a_round: 1,
+        steps: 8 * turns + 1,
+        per_step: true,
+    }
+}
+
+/// K1 of 01, where the costs that a call always has show.
+fn k1(name: &'static str, heap_words: usize, calls_in_a_round: u32) -> Work {
+    let code = [
+        0x20100003, 0xA2000001, 0x10000005, 0xA2000002, 0x10000005, 0xA3000003, 0x00000000,
+    ];
+    Work {
+        name,
+        code: bytes_of(&code),
+        heap: vec![0; 4 * heap_words],
+        start: vec![0; 64],
+        calls_in_a_round,
+        steps: 5,
+        per_step: false,
+    }
+}
+
+fn small_call() -> Work {
+    k1("a call of 5 steps, heap of 16 words", 16, 10_000)
+}
+
+fn full_heap_call() -> Work {
+    k1("a call of 5 steps, heap of 16,384 words", HEAP_WORDS, 100)
+}

@@ -1,0 +1,48 @@
+//! The bare machine's call on byte buffers, as the C program has it.
+
+use crate::bytes::{registers_of, words_of, write_words};
+use crate::machine;
+
+pub const CODE_WORDS: usize = 1_024;
+pub const HEAP_WORDS: usize = 16_384;
+pub const REGISTER_BYTES: usize = 64;
+pub const BUDGET: u32 = 1_000_000;
+
+pub const CODE_TOO_LONG: u8 = 36;
+pub const BAD_BUFFER: u8 = 30;
+pub const BUDGET_TOO_LARGE: u8 = 34;
+
+/// The refusals that apply to lent buffers of these lengths, in 01's order. The first is given.
+pub fn refusals(code: usize, heap: usize, regs: usize, budget: u32) -> impl Iterator<Item = u8> {
+    let ragged = code % 4 != 0 || heap % 4 != 0 || regs != REGISTER_BYTES;
+    [
+        (CODE_TOO_LONG, code / 4 > CODE_WORDS),
+        (BAD_BUFFER, heap / 4 > HEAP_WORDS || ragged),
+        (BUDGET_TOO_LARGE, budget > BUDGET),
+    ]
+    .into_iter()
+    .filter_map(|(number, applies)| applies.then_some(number))
+}
+
+/// number * 2^56 + place * 2^32 + count; the bare machine's places are all 0.
+fn answer(number: u8, count: u32) -> u64 {
+    u64::from(number) << 56 | u64::from(count)
+}
+
+/// Number and count of an answer.
+pub fn number_and_count(answer: u64) -> (u8, u32) {
+    ((answer >> 56) as u8, answer as u32)
+}
+
+/// Runs the code, or refuses and leaves the lent buffers as they are.
+pub fn run(code: &[u8], heap: &mut [u8], regs: &mut [u8], budget: u32) -> u64 {
+    if let Some(number) = refusals(code.len(), heap.len(), regs.len(), budget).next() {
+        return answer(number, 0);
+    }
+    let mut heap_words = words_of(heap);
+    let mut registers = registers_of(regs);
+    let (status, count) = machine::run(&words_of(code), &mut heap_words, &mut registers, budget);
+    write_words(&heap_words, heap);
+    write_words(&registers, regs);
+    answer(status as u8, count)
+}
