@@ -35,7 +35,7 @@ impl Machine {
     pub fn step(&mut self, code: &[u32], heap: &mut [u32]) -> Result<(), Status> {
         let &word = code.get(self.pc).ok_or(Status::OutsideCode)?;
         match opcode(word) {
-            HALT => zero(word, RD | RS | RT | LOW).and(Err(Status::Halted)),
+            HALT => halt(word),
             JMP => self.jmp(word),
             BNZ => self.bnz(word),
             LOAD => self.load(word, heap),
@@ -129,6 +129,11 @@ impl Machine {
         self.regs[0] = 0;
         self.pc += 1;
     }
+}
+
+fn halt(word: u32) -> Result<(), Status> {
+    zero(word, RD | RS | RT | LOW)?;
+    Err(Status::Halted)
 }
 
 /// Traps unless the named parts of the word are zero.

@@ -14,10 +14,11 @@ pub const BUDGET_TOO_LARGE: u8 = 34;
 
 /// The refusals that apply to lent buffers of these lengths, in 01's order. The first is given.
 pub fn refusals(code: usize, heap: usize, regs: usize, budget: u32) -> impl Iterator<Item = u8> {
-    let ragged = code % 4 != 0 || heap % 4 != 0 || regs != REGISTER_BYTES;
+    let whole_words = code.is_multiple_of(4) && heap.is_multiple_of(4);
+    let good_buffers = whole_words && heap / 4 <= HEAP_WORDS && regs == REGISTER_BYTES;
     [
         (CODE_TOO_LONG, code / 4 > CODE_WORDS),
-        (BAD_BUFFER, heap / 4 > HEAP_WORDS || ragged),
+        (BAD_BUFFER, !good_buffers),
         (BUDGET_TOO_LARGE, budget > BUDGET),
     ]
     .into_iter()

@@ -1,13 +1,11 @@
 //! 01's bench pieces about the machine, through both calls.
 
 use peer::bytes::{bytes_of, words_of};
+use peer::cases::K1;
 use peer::run_call::number_and_count;
 use peer::word::{build, ADD_IMMEDIATE, HALT, SLT, SLT_IMMEDIATE};
 use peer::{proved, run_call};
 
-const K1: [u32; 7] = [
-    0x20100003, 0xA2000001, 0x10000005, 0xA2000002, 0x10000005, 0xA3000003, 0x00000000,
-];
 const HALTED: u8 = 0;
 const BUDGET_USED: u8 = 43;
 

@@ -2,6 +2,7 @@
 //! alternating rounds of each, and their ratio.
 
 use peer::bytes::bytes_of;
+use peer::cases::K1;
 use peer::run_call::{number_and_count, BUDGET, HEAP_WORDS};
 use peer::word::*;
 use peer::{proved, run_call};
@@ -47,7 +48,8 @@ fn round(work: &Work, call: Call) -> f64 {
     let begin = Instant::now();
     for _ in 0..work.calls_in_a_round {
         regs.copy_from_slice(&work.start);
-        let answer = call(black_box(&work.code), black_box(&mut heap), black_box(&mut regs), BUDGET);
+        let answer =
+            call(black_box(&work.code), black_box(&mut heap), black_box(&mut regs), BUDGET);
         assert_eq!(number_and_count(answer), (0, work.steps));
     }
     let parts = work.calls_in_a_round * if work.per_step { work.steps } else { 1 };
@@ -81,14 +83,11 @@ fn steps() -> Work {
     }
 }
 
-/// K1 of 01, where the costs that a call always has show.
+/// K1's five steps, where the costs that every call has show.
 fn k1(name: &'static str, heap_words: usize, calls_in_a_round: u32) -> Work {
-    let code = [
-        0x20100003, 0xA2000001, 0x10000005, 0xA2000002, 0x10000005, 0xA3000003, 0x00000000,
-    ];
     Work {
         name,
-        code: bytes_of(&code),
+        code: bytes_of(&K1),
         heap: vec![0; 4 * heap_words],
         start: vec![0; 64],
         calls_in_a_round,

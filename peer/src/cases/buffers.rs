@@ -57,20 +57,29 @@ pub fn any_budget(random: &mut Random) -> u32 {
 
 /// A code length in bytes: none, one word, the limit, one word past it, or ragged.
 pub fn border_code(random: &mut Random) -> usize {
-    let words = random.pick(&[0, 1, 7, 7, CODE_WORDS, CODE_WORDS, CODE_WORDS + 1, CODE_WORDS + 2]);
+    let words = random.pick(&[0, 1, 7, CODE_WORDS, CODE_WORDS, CODE_WORDS + 1]);
     4 * words + rag(random)
 }
 
 pub fn border_heap(random: &mut Random) -> usize {
-    let words = random.pick(&[0, 1, 9, 9, 9, 9, 9, 9, HEAP_WORDS, HEAP_WORDS + 1]);
+    let words =
+        if random.once_in(2) { 9 } else { random.pick(&[0, 1, HEAP_WORDS, HEAP_WORDS + 1]) };
     4 * words + rag(random)
 }
 
 pub fn border_registers(random: &mut Random) -> usize {
-    random.pick(&[0, 60, 63, 65, 68, REGISTER_BYTES, REGISTER_BYTES, REGISTER_BYTES, REGISTER_BYTES])
+    if random.once_in(2) {
+        REGISTER_BYTES
+    } else {
+        random.pick(&[0, 60, 63, 65, 68])
+    }
 }
 
 /// Bytes past the last whole word, seldom any.
 fn rag(random: &mut Random) -> usize {
-    if random.once_in(5) { random.between(1, 3) as usize } else { 0 }
+    if random.once_in(5) {
+        random.between(1, 3) as usize
+    } else {
+        0
+    }
 }

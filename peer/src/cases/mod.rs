@@ -7,6 +7,10 @@ mod words;
 use crate::bytes::bytes_of;
 use crate::random::Random;
 
+/// The code of 01's bench piece K1.
+pub const K1: [u32; 7] =
+    [0x20100003, 0xA2000001, 0x10000005, 0xA2000002, 0x10000005, 0xA3000003, 0x00000000];
+
 pub struct Case {
     pub code: Vec<u8>,
     pub heap: Vec<u8>,
@@ -29,11 +33,8 @@ impl Case {
 fn runnable(random: &mut Random) -> Case {
     let heap_words = buffers::heap_words(random);
     let program = programs::program(random, heap_words);
-    let budget = if program.ends_soon {
-        buffers::any_budget(random)
-    } else {
-        buffers::run_budget(random)
-    };
+    let budget =
+        if program.ends_soon { buffers::any_budget(random) } else { buffers::run_budget(random) };
     Case {
         code: bytes_of(&program.code),
         heap: random.bytes(4 * heap_words as usize),
@@ -47,14 +48,10 @@ fn border(random: &mut Random) -> Case {
     let heap_length = buffers::border_heap(random);
     let heap_words = heap_length as u32 / 4;
     let code_length = buffers::border_code(random);
-    let mut code = bytes_of(&programs::ahead(random, heap_words, code_length.div_ceil(4)));
+    let words = programs::ahead(random, heap_words, code_length.div_ceil(4));
+    let mut code = bytes_of(&words);
     code.truncate(code_length);
     let mut regs = bytes_of(&buffers::registers(random, heap_words));
     regs.resize(buffers::border_registers(random), 0xa5);
-    Case {
-        code,
-        heap: random.bytes(heap_length),
-        regs,
-        budget: buffers::any_budget(random),
-    }
+    Case { code, heap: random.bytes(heap_length), regs, budget: buffers::any_budget(random) }
 }

@@ -31,7 +31,8 @@ pub fn program(random: &mut Random, heap_words: u32) -> Program {
 
 fn counted_loop(random: &mut Random, heap_words: u32) -> Vec<u32> {
     let most_turns = random.pick(&[1, 2, 5, 40, 200]);
-    let mut code = vec![build(ADD_IMMEDIATE, COUNTER, 0, 0, random.between(1, most_turns))];
+    let turns = random.between(1, most_turns);
+    let mut code = vec![build(ADD_IMMEDIATE, COUNTER, 0, 0, turns)];
     code.extend(body(random, heap_words));
     code.push(build(SUB_IMMEDIATE, COUNTER, COUNTER, 0, 1));
     code.push(build(BNZ, 0, COUNTER, 0, 1));
@@ -65,17 +66,19 @@ fn ending(random: &mut Random, heap_words: u32) -> Option<u32> {
     }
 }
 
-/// Every jump goes ahead, many of them to the code's last words or just past them.
+/// Jumps go ahead, many of them to the code's last words or just past them; few words are damaged.
 pub fn ahead(random: &mut Random, heap_words: u32, length: usize) -> Vec<u32> {
     let length = length as u32;
     let mut word_at = |place: u32| {
         let step_ahead = place + 1 + random.below(4);
         let about_the_end = (length + random.below(3)).saturating_sub(2).max(place + 1);
         let target = random.pick(&[step_ahead, about_the_end]);
-        match random.below(24) {
-            _ if place == 0 && random.once_in(2) => build(JMP, 0, 0, 0, target),
-            0 => words::damaged(random, heap_words, target),
-            _ => words::valid(random, heap_words, target),
+        if place == 0 && random.once_in(2) {
+            build(JMP, 0, 0, 0, target)
+        } else if random.once_in(24) {
+            words::damaged(random, heap_words, target)
+        } else {
+            words::valid(random, heap_words, target)
         }
     };
     (0..length).map(&mut word_at).collect()

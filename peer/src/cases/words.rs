@@ -3,15 +3,19 @@
 use crate::random::Random;
 use crate::word::*;
 
-/// Registers that a program may write; the others keep its counter and its bases.
-const FREE: u32 = 10;
+/// `tame` words write r0 to r10 only. Above them are a loop's counter and the
+/// bases r12 to r15, which start in the lower half of the heap.
+const LAST_WRITTEN: u32 = 10;
 pub const COUNTER: u32 = 11;
-/// Bases r12 to r15 start inside the lower half of the heap and are not written by `tame`.
 pub const FIRST_BASE: u32 = 12;
 
 /// Any register, r0 often.
 fn register(random: &mut Random) -> u32 {
-    if random.once_in(8) { 0 } else { random.below(16) }
+    if random.once_in(8) {
+        0
+    } else {
+        random.below(16)
+    }
 }
 
 fn immediate(random: &mut Random) -> u32 {
@@ -43,14 +47,14 @@ fn arithmetic(random: &mut Random, rd: u32) -> u32 {
 
 /// Arithmetic, load or store that goes on, whatever the registers hold.
 pub fn tame(random: &mut Random, heap_words: u32) -> u32 {
-    let free = random.below(FREE + 1);
+    let rd = random.between(0, LAST_WRITTEN);
     if heap_words == 0 || random.once_in(2) {
-        return arithmetic(random, free);
+        return arithmetic(random, rd);
     }
     let base = random.pick(&[0, FIRST_BASE, FIRST_BASE + 1, FIRST_BASE + 2, FIRST_BASE + 3]);
     let offset = random.below(heap_words.div_ceil(2));
     if random.once_in(2) {
-        build(LOAD, free, base, 0, offset)
+        build(LOAD, rd, base, 0, offset)
     } else {
         build(STORE, base, register(random), 0, offset)
     }
@@ -74,17 +78,16 @@ pub fn valid(random: &mut Random, heap_words: u32, target: u32) -> u32 {
     }
 }
 
-/// A valid word with one part overwritten; where its opcode does not use that part, it traps.
+/// A valid word with one bit flipped or one part overwritten; where its opcode
+/// does not use that part, it traps.
 pub fn damaged(random: &mut Random, heap_words: u32, target: u32) -> u32 {
     let word = valid(random, heap_words, target);
+    if random.once_in(2) {
+        return word ^ 1 << random.below(32);
+    }
     let part = random.pick(&[OPCODE, RD, RS, RT, LOW]);
-    let lowest_bit = part & part.wrapping_neg();
-    let value = match random.below(3) {
-        0 => lowest_bit << random.below(part.count_ones()),
-        1 => random.word() & part,
-        _ => part,
-    };
-    word & !part | value
+    let value = if random.once_in(2) { random.word() } else { u32::MAX };
+    word & !part | value & part
 }
 
 /// A word of any layout.

@@ -23,7 +23,8 @@ struct Outcome {
 
 #[test]
 fn proved_and_peer_agree() {
-    let seed = std::env::var("PEER_SEED").map_or(1, |seed| seed.parse().expect("PEER_SEED is a number"));
+    let seed =
+        std::env::var("PEER_SEED").map_or(1, |seed| seed.parse().expect("PEER_SEED is a number"));
     let mut tally = Tally::default();
     for number in 0..CASES {
         let case = Case::new(seed, number);
@@ -47,17 +48,17 @@ fn by_peer(case: &Case) -> Outcome {
 
 /// The error names a byte that the call had no right to write.
 fn by_proved(case: &Case, shift: usize) -> Result<Outcome, &'static str> {
-    let mut code = Lent::new(&case.code, shift);
+    let code = Lent::new(&case.code, shift);
     let mut heap = Lent::new(&case.heap, shift + 1);
     let mut regs = Lent::new(&case.regs, shift + 2);
     let answer = proved::vans_run(code.inside(), heap.inside_mut(), regs.inside_mut(), case.budget);
     if !(code.guards_hold() && heap.guards_hold() && regs.guards_hold()) {
         return Err("wrote outside a buffer");
     }
-    if code.inside_mut() != case.code {
+    if code.inside() != case.code {
         return Err("wrote the code");
     }
-    Ok(Outcome { answer, heap: heap.inside_mut().to_vec(), regs: regs.inside_mut().to_vec() })
+    Ok(Outcome { answer, heap: heap.inside().to_vec(), regs: regs.inside().to_vec() })
 }
 
 fn report(case: &Case, expected: &Outcome, found: &Result<Outcome, &'static str>) -> String {

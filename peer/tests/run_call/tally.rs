@@ -4,7 +4,7 @@ use peer::bytes::{registers_of, words_of};
 use peer::cases::Case;
 use peer::machine::{Machine, Status};
 use peer::run_call::{number_and_count, refusals};
-use peer::word::opcode;
+use peer::word::{opcode, LOAD, STORE};
 use std::collections::BTreeMap;
 use std::fmt;
 
@@ -17,7 +17,7 @@ pub struct Tally {
     answers: BTreeMap<u8, u64>,
     acted: [u64; 15],
     bad_words: [u64; 16],
-    outside_heap: BTreeMap<u32, u64>,
+    outside_heap: [u64; 15],
     long_runs: u64,
     competing_refusals: u64,
 }
@@ -53,7 +53,7 @@ impl Tally {
     fn add_step(&mut self, opcode: u32, stop: Option<Status>) {
         match stop {
             Some(Status::BadWord) => self.bad_words[opcode as usize] += 1,
-            Some(Status::OutsideHeap) => *self.outside_heap.entry(opcode).or_default() += 1,
+            Some(Status::OutsideHeap) => self.outside_heap[opcode as usize] += 1,
             _ => self.acted[opcode as usize] += 1,
         }
     }
@@ -61,11 +61,13 @@ impl Tally {
     pub fn assert_full(&self) {
         for number in [0, 40, 41, 42, 43, 36, 30, 34] {
             let times = self.answers.get(&number).copied().unwrap_or(0);
-            assert!(times >= 500, "answer {number} only {times} times");
+            assert!(times >= 1_000, "answer {number} only {times} times");
         }
-        assert!(self.acted.iter().all(|&times| times >= 5_000), "an opcode is acted on too seldom");
-        assert!(self.bad_words.iter().all(|&times| times >= 100), "an opcode is damaged too seldom");
-        assert!(self.outside_heap.values().all(|&times| times >= 1_000), "too few bad addresses");
+        let seldom = |times: &[u64], least| times.iter().any(|&times| times < least);
+        assert!(!seldom(&self.acted, 10_000), "an opcode is acted on too seldom");
+        assert!(!seldom(&self.bad_words, 200), "an opcode is damaged too seldom");
+        let addresses = [LOAD, STORE].map(|opcode| self.outside_heap[opcode as usize]);
+        assert!(!seldom(&addresses, 1_000), "too few bad addresses");
         assert!(self.long_runs >= 1_000, "too few long runs");
         assert!(self.competing_refusals >= 1_000, "too few competing refusals");
     }
@@ -76,7 +78,7 @@ impl fmt::Display for Tally {
         writeln!(f, "cases by answer: {:?}", self.answers)?;
         writeln!(f, "words acted on by opcode from 0: {:?}", self.acted)?;
         writeln!(f, "bad words (41) by opcode from 0: {:?}", self.bad_words)?;
-        writeln!(f, "outside the heap (42) by opcode: {:?}", self.outside_heap)?;
+        writeln!(f, "outside the heap (42) by opcode from 0: {:?}", self.outside_heap)?;
         writeln!(f, "runs of {LONG_RUN} steps or more: {}", self.long_runs)?;
         write!(f, "cases with more than one refusal: {}", self.competing_refusals)
     }
