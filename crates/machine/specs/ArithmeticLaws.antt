@@ -1,7 +1,9 @@
 -- Signed readings, exact at both ends: a word below 2 ^ 31 is itself, one from there on is below 0, and an extended immediate reads as its 16 bits do.
-use Prim.Native.Nat.{ℕ, _+_, _-_, _<_, _≤_, _^_}
+use Prim.Native.Nat.{ℕ, _+_, _-_, _%_, _<_, _≤_, _^_}
+use native.Mathlib.Decide.{decLt}
 use native.Mathlib.Omega.{arith}
 use mathlib.Core.Path.{_≡_, refl, sym, ap, _∙_}
+use lib.Dec.{ltb}
 use lib.IntN.{ℤ, pos, negsuc}
 use Rattle.choice.specs.Pick.{pick, is-less, not-less}
 use Rattle.machine.specs.Arithmetic.{addOf, signedOf, sltOf, extendOf, computeOf}
@@ -25,3 +27,12 @@ extended-high i h g =
     ap signedOf (sym (not-less i (2 ^ 15) _ _ _ h refl))
     ∙ signed-high (i + (2 ^ 32 - 2 ^ 16)) (omega arith)
     ∙ ap negsuc (omega arith)
+
+-- moved up by 2 ^ 15 within 16 bits and down again within 32, an immediate is extended
+pub up-and-down : (i : ℕ) → i < 2 ^ 16 → ((i + 2 ^ 15) % 2 ^ 16 + (2 ^ 32 - 2 ^ 15)) % 2 ^ 32 ≡ extendOf i
+unfolding extendOf
+up-and-down i h = by-half (decLt i (2 ^ 15))
+  where
+    by-half : Dec (i < 2 ^ 15) → ((i + 2 ^ 15) % 2 ^ 16 + (2 ^ 32 - 2 ^ 15)) % 2 ^ 32 ≡ pick (ltb i (2 ^ 15)) i (i + (2 ^ 32 - 2 ^ 16))
+    by-half (yes g) = is-less i (2 ^ 15) _ _ _ g (omega arith)
+    by-half (no g) = not-less i (2 ^ 15) _ _ _ (omega arith) (omega arith)

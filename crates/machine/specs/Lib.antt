@@ -9,3 +9,4 @@ pub mod TableLaws  -- what a word of each kind does, branch by branch
 pub mod StepLaws  -- what a step does, reads and keeps
 pub mod Run  -- a run with a budget, and what the bare machine refuses
 pub mod RunLaws  -- a stopped machine stays; turns and ends of a run
+pub mod R0Laws  -- r0 is nobody's: what the state holds there may be put aside

@@ -6,13 +6,24 @@ use lib.ListN.{length, getD, length-set}
 use Rattle.choice.specs.Pick.{both, is-equal, not-equal}
 use Rattle.machine.specs.Numbers.{RUNNING}
 use Rattle.machine.specs.Word.{Kind, halt, jmp, bnz, load, store, compute, compute-immediate, bad, kindOf}
-use Rattle.machine.specs.Step.{Machine, machineAt, doesOf, actOf, stepOf}
+use Rattle.machine.specs.declared.table.State.{State}
+use Rattle.machine.specs.Step.{Machine, machineAt, machineOf, doesOf, actOf, stepOf}
 use Rattle.machine.specs.TableLaws.{as-kind, acts}
 
 -- a step of a running machine acts
 pub step-acts : (code regs : List ℕ) (pc : ℕ) (heap : List ℕ) → stepOf code (machineAt regs pc RUNNING heap) ≡ actOf code regs pc heap
 unfolding stepOf
 step-acts code regs pc heap = sym (is-equal RUNNING RUNNING _ _ _ refl refl)
+
+-- a step from a state that runs acts, and one from a state that does not stays; for the proof of the code
+module _ (code : List ℕ) (s : State) (heap : List ℕ) (r : Machine) where
+  pub from-running : s .status ≡ RUNNING → r ≡ actOf code (s .regs) (s .pc) heap → r ≡ stepOf code (machineOf s heap)
+  unfolding stepOf
+  from-running e p = is-equal (s .status) RUNNING _ _ _ e p
+
+  pub from-stopped : (s .status ≡ RUNNING → ⊥) → r ≡ machineOf s heap → r ≡ stepOf code (machineOf s heap)
+  unfolding stepOf
+  from-stopped e p = not-equal (s .status) RUNNING _ _ _ e p
 
 -- the step of a running machine at a word of kind k
 pub step-does : (code regs : List ℕ) (pc : ℕ) (heap : List ℕ) (k : Kind) → pc < length code → kindOf (getD code pc 0) ≡ k

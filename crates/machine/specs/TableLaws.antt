@@ -3,16 +3,18 @@
 --     a word            `used`, `spoilt`: a kind whose unused parts are zero is that kind, else it is bad
 --     a kind            `does-..`: what a word of that kind does
 -- `registers`, `table` and `opcodes` hold them for a search.
-use Prim.Native.Nat.{ℕ, _+_, _-_, _<_, _≤_}
+use Prim.Native.Nat.{ℕ, suc, _+_, _-_, _<_, _≤_}
 use mathlib.Core.Path.{_≡_, refl, sym, ap, _∙_}
 use mathlib.Core.List.{List}
 use lib.ListN.{length, getD, set}
+use lib.Arith.{lt-of-le-ne}
+use borrow.Author.Needs.{zero≤}
 use lib.Dec.{ltb, eqb}
 use Rattle.choice.specs.Pick.{is-equal, not-equal, is-less, not-less}
 use Rattle.machine.specs.Numbers.{HALTED, NO-WORD, BAD-WORD, BAD-ADDRESS, RUNNING}
 use Rattle.machine.specs.Arithmetic.{computeOf, extendOf}
 use Rattle.machine.specs.Word.{Kind, halt, jmp, bnz, load, store, compute, compute-immediate, bad, whole, haltIn, jmpIn, bnzIn, loadIn, storeIn, computeIn, computeImmediateIn, opcodeOf, kindAt, kindOf}
-use Rattle.machine.specs.WordLaws.{op-halt, op-jmp, op-bnz, op-load, op-store, op-compute, op-compute-immediate, op-none}
+use Rattle.machine.specs.WordLaws.{op-halt, op-jmp, op-bnz, op-load, op-store, op-compute-at, op-compute-immediate-at, op-compute-immediate-of, op-none}
 use Rattle.machine.specs.Step.{Machine, machineAt, readOf, writeOf, doesOf, actOf}
 
 module _ (regs : List ℕ) (i j : ℕ) (e : i ≡ j) where
@@ -33,6 +35,10 @@ module _ (regs : List ℕ) (i j : ℕ) (e : i ≡ j) where
   writes v z = not-equal j 0 _ _ _ (λ h. z (e ∙ h)) (ap (λ (k : ℕ). set regs k v) e)
 
 pub ruleset registers = (reads-zero, reads, writes-zero, writes)
+
+-- a number from n on that is not n lies past n
+past : {n v : ℕ} → (v ≡ n → ⊥) → n ≤ v → suc n ≤ v
+past ne h = lt-of-le-ne h (λ e. ne (sym e))
 
 module _ (regs : List ℕ) (pc : ℕ) (heap : List ℕ) where
   -- a word of kind k does what k does
@@ -101,12 +107,17 @@ module _ (regs : List ℕ) (pc : ℕ) (heap : List ℕ) where
   unfolding doesOf
   does-bad = refl
 
-  -- a word of no kind: v is its opcode as the code holds it, none of the single ones and past the ranges
-  pub op-bad : (v op w : ℕ) → v ≡ op → (v ≡ 0 → ⊥) → (v ≡ 1 → ⊥) → (v ≡ 2 → ⊥) → (v ≡ 3 → ⊥) → (v ≡ 4 → ⊥) → 15 ≤ v
+  -- a word of none of the opcodes 0 to 14
+  pub op-bad : (v op w : ℕ) → v ≡ op → (v ≡ 0 → ⊥) → (v ≡ 1 → ⊥) → (v ≡ 2 → ⊥) → (v ≡ 3 → ⊥) → (v ≡ 4 → ⊥) → (v ≡ 5 → ⊥) → (v ≡ 6 → ⊥) → (v ≡ 7 → ⊥)
+      → (v ≡ 8 → ⊥) → (v ≡ 9 → ⊥) → (v ≡ 10 → ⊥) → (v ≡ 11 → ⊥) → (v ≡ 12 → ⊥) → (v ≡ 13 → ⊥) → (v ≡ 14 → ⊥)
       → machineAt regs pc BAD-WORD heap ≡ doesOf (kindAt op w) regs pc heap
-  op-bad v op w e n0 n1 n2 n3 n4 h = as-kind _ bad (kindAt op w) (op-none v op w e n0 n1 n2 n3 n4 h) does-bad
+  op-bad v op w e n0 n1 n2 n3 n4 n5 n6 n7 n8 n9 n10 n11 n12 n13 n14 =
+      let low : 5 ≤ v = past n4 (past n3 (past n2 (past n1 (past n0 zero≤)))) in
+      let middle : 10 ≤ v = past n9 (past n8 (past n7 (past n6 (past n5 low)))) in
+      let high : 15 ≤ v = past n14 (past n13 (past n12 (past n11 (past n10 middle)))) in
+      as-kind _ bad (kindAt op w) (op-none v op w e high) does-bad
 
-pub ruleset table = (used, spoilt, does-halt, does-jmp, does-fall, does-branch, does-load, does-load-trap, does-store, does-store-trap, does-compute, does-compute-immediate, does-bad)
+pub ruleset table = (refl, used, spoilt, does-halt, does-jmp, does-fall, does-branch, does-load, does-load-trap, does-store, does-store-trap, does-compute, does-compute-immediate, does-bad)
 
 -- a running machine acts on the word at its pc, and traps where there is none
 module _ (code regs : List ℕ) (pc : ℕ) (heap : List ℕ) (r : Machine) where
@@ -118,4 +129,4 @@ module _ (code regs : List ℕ) (pc : ℕ) (heap : List ℕ) (r : Machine) where
   unfolding actOf
   acts-nowhere h p = not-less pc (length code) _ _ _ h p
 
-pub ruleset opcodes = (refl, acts, acts-nowhere, as-kind, op-halt, op-jmp, op-bnz, op-load, op-store, op-compute, op-compute-immediate, op-bad)
+pub ruleset opcodes = (refl, acts, acts-nowhere, as-kind, op-halt, op-jmp, op-bnz, op-load, op-store, op-compute-at, op-compute-immediate-at, op-compute-immediate-of, op-bad)

@@ -38,12 +38,12 @@ pub data Kind : Type 0 where
 unfoldable pub whole : ℕ → Kind → Kind
 whole unused k = pick (eqb unused 0) k bad
 
--- each kind with the word's parts in their places, and the parts that it leaves unused
+-- each kind with the word's parts in their places, and what it leaves unused: all below the opcode, all between opcode and low half, or single parts
 abbrev pub haltIn : ℕ → Kind
-haltIn w = whole (rdOf w + rsOf w + rtOf w + lowOf w) halt
+haltIn w = whole (w % 2 ^ 28) halt
 
 abbrev pub jmpIn : ℕ → Kind
-jmpIn w = whole (rdOf w + rsOf w + rtOf w) (jmp (lowOf w))
+jmpIn w = whole (w / 2 ^ 16 % 2 ^ 12) (jmp (lowOf w))
 
 abbrev pub bnzIn : ℕ → Kind
 bnzIn w = whole (rdOf w + rtOf w) (bnz (rsOf w) (lowOf w))

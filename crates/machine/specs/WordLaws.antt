@@ -1,8 +1,9 @@
 -- Putting a word together and splitting it again: each part comes back, and so does the kind.
-use Prim.Native.Nat.{ℕ, _+_, _-_, _^_, _<_, _≤_}
+use Prim.Native.Nat.{ℕ, _+_, _-_, _*_, _/_, _%_, _^_, _<_, _≤_}
 use native.Mathlib.Omega.{arith}
 use mathlib.Core.Path.{_≡_, refl, sym, ap, _∙_}
 use lib.Dec.{lit<, eqb}
+use lib.Pow.{mod-pow-add, shr-shr}
 use Rattle.choice.specs.Pick.{pick, cases, is-equal}
 use Rattle.machine.specs.Word.{Kind, halt, jmp, bnz, load, store, compute, compute-immediate, bad, whole, haltIn, jmpIn, bnzIn, loadIn, storeIn, computeIn, computeImmediateIn, opcodeOf, rdOf, rsOf, rtOf, lowOf, kindAt, kindOf, joined, wordOf, InRange}
 
@@ -19,7 +20,7 @@ pub split-joined : (op rd rs rt low : ℕ) → op < 16 → rd < 16 → rs < 16 �
 split-joined op rd rs rt low ho hd hs ht hl =
     record { opcode = omega arith; rd-part = omega arith; rs-part = omega arith; rt-part = omega arith; low-part = omega arith }
 
--- the kind that an opcode stands for; v is the opcode as the code holds it. Behind the single opcodes a range knows that v is none of them
+-- the kind that an opcode stands for; v is the opcode as the code holds it
 module _ (v op w : ℕ) (e : v ≡ op) where
   pub op-halt : v ≡ 0 → haltIn w ≡ kindAt op w
   unfolding kindAt
@@ -41,21 +42,48 @@ module _ (v op w : ℕ) (e : v ≡ op) where
   unfolding kindAt
   op-store z = rw (← e) (search cases depth 7)
 
-  module _ (n0 : v ≡ 0 → ⊥) (n1 : v ≡ 1 → ⊥) (n2 : v ≡ 2 → ⊥) (n3 : v ≡ 3 → ⊥) (n4 : v ≡ 4 → ⊥) where
-    behind : (k k′ : Kind) → k ≡ k′ → k ≡ pick (eqb v 0) (haltIn w) (pick (eqb v 1) (jmpIn w) (pick (eqb v 2) (bnzIn w) (pick (eqb v 3) (loadIn w) (pick (eqb v 4) (storeIn w) k′))))
-    behind k k′ p = search cases depth 8
+  behind : 5 ≤ v → (k k′ : Kind) → k ≡ k′ → k ≡ pick (eqb v 0) (haltIn w) (pick (eqb v 1) (jmpIn w) (pick (eqb v 2) (bnzIn w) (pick (eqb v 3) (loadIn w) (pick (eqb v 4) (storeIn w) k′))))
+  behind h k k′ p =
+      let n0 : v ≡ 0 → ⊥ = λ q. omega arith in
+      let n1 : v ≡ 1 → ⊥ = λ q. omega arith in
+      let n2 : v ≡ 2 → ⊥ = λ q. omega arith in
+      let n3 : v ≡ 3 → ⊥ = λ q. omega arith in
+      let n4 : v ≡ 4 → ⊥ = λ q. omega arith in
+      search cases depth 8
 
-    pub op-compute : v < 10 → computeIn v w ≡ kindAt op w
-    unfolding kindAt
-    op-compute h = rw (← e) (behind _ _ (search cases))
+  pub op-compute : 5 ≤ v → v < 10 → computeIn v w ≡ kindAt op w
+  unfolding kindAt
+  op-compute g h = rw (← e) (behind g _ _ (search cases))
 
-    pub op-compute-immediate : 10 ≤ v → v < 15 → computeImmediateIn (v - 5) w ≡ kindAt op w
-    unfolding kindAt
-    op-compute-immediate g h = rw (← e) (behind _ _ (search cases))
+  pub op-compute-immediate : 10 ≤ v → v < 15 → computeImmediateIn (v - 5) w ≡ kindAt op w
+  unfolding kindAt
+  op-compute-immediate g h = rw (← e) (behind (omega arith) _ _ (search cases))
 
-    pub op-none : 15 ≤ v → bad ≡ kindAt op w
-    unfolding kindAt
-    op-none h = let g : 10 ≤ v = omega arith in rw (← e) (behind _ _ (search cases))
+  pub op-none : 15 ≤ v → bad ≡ kindAt op w
+  unfolding kindAt
+  op-none h = let g : 10 ≤ v = omega arith in rw (← e) (behind (omega arith) _ _ (search cases))
+
+  -- an operation x whose opcode is the single number k
+  pub op-compute-at : (x k : ℕ) → v ≡ k → x ≡ k → 5 ≤ k → k < 10 → computeIn x w ≡ kindAt op w
+  op-compute-at x k z a g h = ap (λ (o : ℕ). computeIn o w) (a ∙ sym z) ∙ op-compute (omega arith) (omega arith)
+
+  pub op-compute-immediate-at : (x k : ℕ) → v ≡ k → x ≡ k - 5 → 10 ≤ k → k < 15 → computeImmediateIn x w ≡ kindAt op w
+  op-compute-immediate-at x k z a g h =
+      ap (λ (o : ℕ). computeImmediateIn o w) (a ∙ ap (λ (o : ℕ). o - 5) (sym z)) ∙ op-compute-immediate (omega arith) (omega arith)
+
+  pub op-compute-immediate-of : (k : ℕ) → v ≡ k → 10 ≤ k → k < 15 → computeImmediateIn (v - 5) w ≡ kindAt op w
+  op-compute-immediate-of k z g h = op-compute-immediate (omega arith) (omega arith)
+
+-- all below the opcode, and all between the opcode and the low half, by their parts
+below-opcode : (w : ℕ) → w % 2 ^ 28 ≡ rdOf w * 2 ^ 24 + rsOf w * 2 ^ 20 + rtOf w * 2 ^ 16 + lowOf w
+below-opcode w = omega (arith, mod-pow-add w 4 24, mod-pow-add w 4 20, mod-pow-add w 4 16)
+
+above-low : (w : ℕ) → w / 2 ^ 16 % 2 ^ 12 ≡ rdOf w * 2 ^ 8 + rsOf w * 2 ^ 4 + rtOf w
+above-low w =
+    let x : ℕ = w / 2 ^ 16 in
+    let rd-at : x / 2 ^ 8 ≡ w / 2 ^ 24 = shr-shr w 16 8 in
+    let rs-at : x / 2 ^ 4 ≡ w / 2 ^ 20 = shr-shr w 16 4 in
+    omega (arith, mod-pow-add x 4 8, mod-pow-add x 4 4, ap (λ (y : ℕ). y % 16) rd-at, ap (λ (y : ℕ). y % 16) rs-at)
 
 back : (op : ℕ) → op ≡ op + 5 - 5
 back op = omega arith
@@ -64,13 +92,13 @@ back op = omega arith
 module _ (w rd rs rt low : ℕ) where
   pub kind-halt : Parts w 0 0 0 0 0 → kindOf w ≡ halt
   unfolding whole
-  kind-halt p = sym (is-equal (rdOf w + rsOf w + rtOf w + lowOf w) 0 _ _ _ (omega arith) refl ∙ op-halt 0 (opcodeOf w) w (sym (p .opcode)) refl)
+  kind-halt p = sym (is-equal (w % 2 ^ 28) 0 _ _ _ (omega (arith, below-opcode w)) refl ∙ op-halt 0 (opcodeOf w) w (sym (p .opcode)) refl)
 
   pub kind-jmp : Parts w 1 0 0 0 low → kindOf w ≡ jmp low
   unfolding whole
   kind-jmp p =
       sym
-      (is-equal (rdOf w + rsOf w + rtOf w) 0 _ _ _ (omega arith) (ap jmp (sym (p .low-part)))
+      (is-equal (w / 2 ^ 16 % 2 ^ 12) 0 _ _ _ (omega (arith, above-low w)) (ap jmp (sym (p .low-part)))
       ∙ op-jmp 1 (opcodeOf w) w (sym (p .opcode)) refl)
 
   pub kind-bnz : Parts w 2 0 rs 0 low → kindOf w ≡ bnz rs low
@@ -100,7 +128,7 @@ module _ (w rd rs rt low : ℕ) where
     kind-compute p =
         sym
         (is-equal (lowOf w) 0 (compute op rd rs rt) _ _ (p .low-part) (cc (p .rd-part, p .rs-part, p .rt-part))
-        ∙ op-compute op (opcodeOf w) w (sym (p .opcode)) (λ q. omega arith) (λ q. omega arith) (λ q. omega arith) (λ q. omega arith) (λ q. omega arith) to)
+        ∙ op-compute op (opcodeOf w) w (sym (p .opcode)) from to)
 
     pub kind-compute-immediate : Parts w (op + 5) rd rs 0 low → kindOf w ≡ compute-immediate op rd rs low
     unfolding whole
@@ -108,7 +136,7 @@ module _ (w rd rs rt low : ℕ) where
         sym
         (is-equal (rtOf w) 0 (compute-immediate op rd rs low) _ _ (p .rt-part) (cc (p .rd-part, p .rs-part, p .low-part))
         ∙ ap (λ (o : ℕ). computeImmediateIn o w) (back op)
-        ∙ op-compute-immediate (op + 5) (opcodeOf w) w (sym (p .opcode)) (λ q. omega arith) (λ q. omega arith) (λ q. omega arith) (λ q. omega arith) (λ q. omega arith) (omega arith) (omega arith))
+        ∙ op-compute-immediate (op + 5) (opcodeOf w) w (sym (p .opcode)) (omega arith) (omega arith))
 
 -- the kind comes back from its word
 pub kind-back : (k : Kind) → InRange k → kindOf (wordOf k) ≡ k

@@ -34,15 +34,12 @@ fn slt(a: u32, b: u32) -> u32
     if signed(a) < signed(b) { 1 } else { 0 }
 }
 
-// The word of an immediate of 16 bits.
+// The word of an immediate of 16 bits: moved up by 2^15 within 16 bits, and down again within 32.
 pub fn extended(i: u16) -> u32
     ensures { λ r. ⌜ r ≡ extendOf i ⌝ }
 {
-    if i < 0x8000 {
-        i as u32
-    } else {
-        i as u32 + 0xffff_0000
-    }
+    let up = (i as u32 + 0x8000) % 0x1_0000;
+    ((up as u64 + 0xffff_8000) % 0x1_0000_0000) as u32
 }
 
 // The operation with the item number op, 5 to 9.

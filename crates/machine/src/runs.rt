@@ -10,7 +10,7 @@ use crate::numbers::RUNNING;
 use crate::table::State;
 use crate::table::act;
 ghost use mathlib.Core.Path.{_≡_};
-ghost use lib.ListN.{length};
+ghost use lib.ListN.{getD};
 ghost use Rattle.machine.specs.Numbers.{RUNNING};
 ghost use Rattle.machine.specs.Step.{machineAt, machineOf};
 ghost use Rattle.machine.specs.Run.{outcomeAt, outcomeFrom, refusalOf, runOf};
@@ -37,9 +37,10 @@ pub fn refusal(code: usize, heap: usize, budget: u32) -> u8
     }
 }
 
-// Steps until the machine stops or the budget is used. The registers stay in a local array that
-// each step is lent: a state by value would be copied at every step.
+// Steps until the machine stops or the budget is used, with 0 in r0. The registers stay in a local
+// array that each step is lent: a state by value would be copied at every step.
 fn drive(code: &[u32], heap: &mut [u32], start: [u32; 16], budget: u32) -> Ran
+    requires { ⌜ getD start 0 0 ≡ 0 ⌝ }
     ensures { λ r. ⌜ outcomeAt (machineOf (r .state) (now (heap .exit))) (r .count) ≡ outcomeFrom (now (code .entry)) budget (machineAt start 0 RUNNING (now (heap .entry))) 0 ⌝ }
 {
     let mut regs = start;
@@ -73,13 +74,34 @@ fn drive(code: &[u32], heap: &mut [u32], start: [u32; 16], budget: u32) -> Ran
     }
 }
 
+// Drives the machine with what the start holds in r0 put aside.
+fn drive_aside(code: &[u32], heap: &mut [u32], start: [u32; 16], budget: u32) -> Ran
+    ensures { λ r. ⌜ outcomeAt (machineOf (r .state) (now (heap .exit))) (r .count) ≡ outcomeFrom (now (code .entry)) budget (machineAt start 0 RUNNING (now (heap .entry))) 0 ⌝ }
+{
+    let aside = start[0];
+    let mut zeroed = start;
+    zeroed[0] = 0;
+    let ran = drive(code, heap, zeroed, budget);
+    let state = ran.state;
+    let mut regs = state.regs;
+    regs[0] = aside;
+    Ran {
+        state: State {
+            regs,
+            pc: state.pc,
+            status: state.status,
+        },
+        count: ran.count,
+    }
+}
+
 // Runs the code from pc 0 over the heap, if nothing is refused.
 pub fn run(code: &[u32], heap: &mut [u32], regs: [u32; 16], budget: u32) -> Ran
     ensures { λ r. ⌜ outcomeAt (machineOf (r .state) (now (heap .exit))) (r .count) ≡ runOf (now (code .entry)) (now (heap .entry)) regs budget ⌝ }
 {
     let refused = refusal(code.len(), heap.len(), budget);
     if refused == 0 {
-        drive(code, heap, regs, budget)
+        drive_aside(code, heap, regs, budget)
     } else {
         Ran {
             state: State {

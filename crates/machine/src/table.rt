@@ -7,8 +7,9 @@ use crate::numbers::HALTED;
 use crate::numbers::NO_WORD;
 use crate::numbers::RUNNING;
 ghost use mathlib.Core.Path.{_≡_};
-ghost use Prim.Native.Nat.{_+_, _<_, _^_};
-ghost use Rattle.machine.specs.Word.{partOf, rdOf, rsOf, rtOf, lowOf, haltIn, jmpIn, bnzIn, loadIn, storeIn, computeIn, computeImmediateIn};
+ghost use Prim.Native.Nat.{_+_, _/_, _%_, _<_, _^_};
+ghost use lib.ListN.{getD};
+ghost use Rattle.machine.specs.Word.{partOf, rdOf, rtOf, lowOf, haltIn, jmpIn, bnzIn, loadIn, storeIn, computeIn, computeImmediateIn};
 ghost use Rattle.machine.specs.Step.{machineAt, machineOf, readOf, writeOf, doesOf, actOf, stepOf};
 
 // The sixteen registers, the pc and a status. A status other than RUNNING is that of a stopped state.
@@ -48,13 +49,13 @@ fn low(w: u32) -> u16
     (w & 0xffff) as u16
 }
 
-// The word of the register that a part of w names; r0 reads as 0.
+// The word of the register that a part of w names, where r0 holds 0.
 fn read(regs: &[u32; 16], w: u32, at: u32) -> u32
     requires { ⌜ at < 32 ⌝ }
+    requires { ⌜ getD (now regs) 0 0 ≡ 0 ⌝ }
     ensures { λ r. ⌜ r ≡ readOf (now (regs .entry)) (partOf w at) ⌝ }
 {
-    let i = part(w, at);
-    if i == 0 { 0 } else { regs[i] }
+    regs[part(w, at)]
 }
 
 // Writes the register rd of w; a write to r0 has no effect.
@@ -71,23 +72,24 @@ fn write(regs: &mut [u32; 16], w: u32, v: u32)
 // The address that w names by a register and an offset, as a whole number.
 fn address(regs: &[u32; 16], w: u32, at: u32) -> usize
     requires { ⌜ at < 32 ⌝ }
+    requires { ⌜ getD (now regs) 0 0 ≡ 0 ⌝ }
     ensures { λ r. ⌜ r ≡ readOf (now (regs .entry)) (partOf w at) + lowOf w ⌝ }
 {
     read(regs, w, at) as usize + low(w) as usize
 }
 
-// The sum of the parts that a kind of word leaves unused: 0 where they all are.
+// What halt, jmp and bnz leave unused: 0 where it is.
 
-fn unused_by_halt(w: u32) -> usize
-    ensures { λ r. ⌜ r ≡ rdOf w + rsOf w + rtOf w + lowOf w ⌝ }
+fn unused_by_halt(w: u32) -> u32
+    ensures { λ r. ⌜ r ≡ w % 2 ^ 28 ⌝ }
 {
-    part(w, RD) + part(w, RS) + part(w, RT) + low(w) as usize
+    w & 0x0fff_ffff
 }
 
-fn unused_by_jmp(w: u32) -> usize
-    ensures { λ r. ⌜ r ≡ rdOf w + rsOf w + rtOf w ⌝ }
+fn unused_by_jmp(w: u32) -> u32
+    ensures { λ r. ⌜ r ≡ w / 2 ^ 16 % 2 ^ 12 ⌝ }
 {
-    part(w, RD) + part(w, RS) + part(w, RT)
+    (w >> 16) & 0x0fff
 }
 
 fn unused_by_bnz(w: u32) -> usize
@@ -97,7 +99,8 @@ fn unused_by_bnz(w: u32) -> usize
 }
 
 // The functions below each do what a word of one kind does. Each is lent the whole machine, so that
-// its contract speaks of all of it, and by `&` what its kind leaves as it is.
+// its contract speaks of all of it, and by `&` what its kind leaves as it is. In the registers that
+// are lent r0 holds 0, so that no read has to ask which register it is.
 
 fn halt(heap: &[u32], regs: &[u32; 16], w: u32, pc: usize) -> Next
     ensures { λ r. ⌜ machineAt (now (regs .entry)) (r .pc) (r .status) (now (heap .entry)) ≡ doesOf (haltIn w) (now (regs .entry)) pc (now (heap .entry)) ⌝ }
@@ -128,6 +131,7 @@ fn jmp(heap: &[u32], regs: &[u32; 16], w: u32, pc: usize) -> Next
 
 fn bnz(heap: &[u32], regs: &[u32; 16], w: u32, pc: usize) -> Next
     requires { ⌜ pc + 1 < 2 ^ 64 ⌝ }
+    requires { ⌜ getD (now regs) 0 0 ≡ 0 ⌝ }
     ensures { λ r. ⌜ machineAt (now (regs .entry)) (r .pc) (r .status) (now (heap .entry)) ≡ doesOf (bnzIn w) (now (regs .entry)) pc (now (heap .entry)) ⌝ }
 {
     if unused_by_bnz(w) == 0 {
@@ -150,6 +154,7 @@ fn bnz(heap: &[u32], regs: &[u32; 16], w: u32, pc: usize) -> Next
 
 fn load(heap: &[u32], regs: &mut [u32; 16], w: u32, pc: usize) -> Next
     requires { ⌜ pc + 1 < 2 ^ 64 ⌝ }
+    requires { ⌜ getD (now regs) 0 0 ≡ 0 ⌝ }
     ensures { λ r. ⌜ machineAt (now (regs .exit)) (r .pc) (r .status) (now (heap .entry)) ≡ doesOf (loadIn w) (now (regs .entry)) pc (now (heap .entry)) ⌝ }
 {
     if part(w, RT) == 0 {
@@ -174,6 +179,7 @@ fn load(heap: &[u32], regs: &mut [u32; 16], w: u32, pc: usize) -> Next
 
 fn store(heap: &mut [u32], regs: &[u32; 16], w: u32, pc: usize) -> Next
     requires { ⌜ pc + 1 < 2 ^ 64 ⌝ }
+    requires { ⌜ getD (now regs) 0 0 ≡ 0 ⌝ }
     ensures { λ r. ⌜ machineAt (now (regs .entry)) (r .pc) (r .status) (now (heap .exit)) ≡ doesOf (storeIn w) (now (regs .entry)) pc (now (heap .entry)) ⌝ }
 {
     if part(w, RT) == 0 {
@@ -198,6 +204,7 @@ fn store(heap: &mut [u32], regs: &[u32; 16], w: u32, pc: usize) -> Next
 
 fn compute_registers(heap: &[u32], regs: &mut [u32; 16], op: usize, w: u32, pc: usize) -> Next
     requires { ⌜ pc + 1 < 2 ^ 64 ⌝ }
+    requires { ⌜ getD (now regs) 0 0 ≡ 0 ⌝ }
     ensures { λ r. ⌜ machineAt (now (regs .exit)) (r .pc) (r .status) (now (heap .entry)) ≡ doesOf (computeIn op w) (now (regs .entry)) pc (now (heap .entry)) ⌝ }
 {
     if low(w) == 0 {
@@ -216,6 +223,7 @@ fn compute_registers(heap: &[u32], regs: &mut [u32; 16], op: usize, w: u32, pc: 
 
 fn compute_immediate(heap: &[u32], regs: &mut [u32; 16], op: usize, w: u32, pc: usize) -> Next
     requires { ⌜ pc + 1 < 2 ^ 64 ⌝ }
+    requires { ⌜ getD (now regs) 0 0 ≡ 0 ⌝ }
     ensures { λ r. ⌜ machineAt (now (regs .exit)) (r .pc) (r .status) (now (heap .entry)) ≡ doesOf (computeImmediateIn op w) (now (regs .entry)) pc (now (heap .entry)) ⌝ }
 {
     if part(w, RT) == 0 {
@@ -232,8 +240,11 @@ fn compute_immediate(heap: &[u32], regs: &mut [u32; 16], op: usize, w: u32, pc: 
     }
 }
 
-// One step of a running machine, on registers that are lent.
+// One step of a running machine, on registers that are lent, where r0 holds 0. A range takes the
+// operations; those that loops are made of have arms of their own before it, for one jump finds an
+// arm of a single number, and a range takes tests.
 pub fn act(code: &[u32], heap: &mut [u32], regs: &mut [u32; 16], pc: usize) -> Next
+    requires { ⌜ getD (now regs) 0 0 ≡ 0 ⌝ }
     ensures { λ r. ⌜ machineAt (now (regs .exit)) (r .pc) (r .status) (now (heap .exit)) ≡ actOf (now (code .entry)) (now (regs .entry)) pc (now (heap .entry)) ⌝ }
 {
     if pc < code.len() {
@@ -245,6 +256,14 @@ pub fn act(code: &[u32], heap: &mut [u32], regs: &mut [u32; 16], pc: usize) -> N
             2 => bnz(heap, regs, w, pc),
             3 => load(heap, regs, w, pc),
             4 => store(heap, regs, w, pc),
+            5 => compute_registers(heap, regs, 5, w, pc),
+            6 => compute_registers(heap, regs, 6, w, pc),
+            7 => compute_registers(heap, regs, 7, w, pc),
+            8 => compute_registers(heap, regs, 8, w, pc),
+            10 => compute_immediate(heap, regs, 5, w, pc),
+            11 => compute_immediate(heap, regs, 6, w, pc),
+            12 => compute_immediate(heap, regs, 7, w, pc),
+            13 => compute_immediate(heap, regs, 8, w, pc),
             5..=9 => compute_registers(heap, regs, op, w, pc),
             10..=14 => compute_immediate(heap, regs, op - 5, w, pc),
             _ => Next {
@@ -261,14 +280,18 @@ pub fn act(code: &[u32], heap: &mut [u32], regs: &mut [u32; 16], pc: usize) -> N
 }
 
 // One step: a running state acts on the word at its pc or traps; a stopped state stays as it is.
+// What the state holds in r0 is put aside for the step.
 pub fn step(code: &[u32], heap: &mut [u32], s: State) -> State
     ensures { λ r. ⌜ machineOf r (now (heap .exit)) ≡ stepOf (now (code .entry)) (machineOf s (now (heap .entry))) ⌝ }
 {
     let status = s.status;
     if status == RUNNING {
         let mut regs = s.regs;
+        let aside = regs[0];
+        regs[0] = 0;
         let pc = s.pc;
         let next = act(code, heap, &mut regs, pc);
+        regs[0] = aside;
         State {
             regs,
             pc: next.pc,

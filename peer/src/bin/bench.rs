@@ -27,7 +27,12 @@ struct Work {
 
 fn main() {
     println!("{:<40}{:>12}{:>12}{:>8}", "best, in nanoseconds", "vans_run", "peer", "ratio");
-    for work in [steps(), small_call(), full_heap_call()] {
+    let works = [
+        steps(),
+        k1("a call of 5 steps, heap of 16 words", 16, 10_000),
+        k1("a call of 5 steps, heap of 16,384 words", HEAP_WORDS, 100),
+    ];
+    for work in works {
         let (proved, peer) = measure(&work);
         println!("{:<40}{proved:>12.2}{peer:>12.2}{:>8.2}", work.name, proved / peer);
     }
@@ -94,12 +99,4 @@ fn k1(name: &'static str, heap_words: usize, calls_in_a_round: u32) -> Work {
         steps: 5,
         per_step: false,
     }
-}
-
-fn small_call() -> Work {
-    k1("a call of 5 steps, heap of 16 words", 16, 10_000)
-}
-
-fn full_heap_call() -> Work {
-    k1("a call of 5 steps, heap of 16,384 words", HEAP_WORDS, 100)
 }
