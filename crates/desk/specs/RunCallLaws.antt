@@ -59,9 +59,12 @@ passes code heap regs budget n e z =
     record { code-whole = omega arith; heap-whole = omega arith; code-fits = q .0; heap-fits = q .1; regs-fit = p .2 }
 
 -- few bytes are few words
-pub passes-small : (w code heap regs budget n : ℕ) → n ≡ borderOf code heap regs budget → n ≡ 0 → code ≤ w * 4 → heap ≤ w * 4 → Whole w w code heap regs
-passes-small w code heap regs budget n e z hc hh =
-    let p : Whole CODE-WORDS HEAP-WORDS code heap regs = passes code heap regs budget n e z in
+pub fewer : (cw hw w code heap regs : ℕ) → Whole cw hw code heap regs → heap ≤ w * 4 → Whole cw w code heap regs
+fewer cw hw w code heap regs p h =
+    record { code-whole = p .code-whole; heap-whole = p .heap-whole; code-fits = p .code-fits; heap-fits = omega arith; regs-fit = p .regs-fit }
+
+pub fewer-both : (cw hw w code heap regs : ℕ) → Whole cw hw code heap regs → code ≤ w * 4 → heap ≤ w * 4 → Whole w w code heap regs
+fewer-both cw hw w code heap regs p hc hh =
     record { code-whole = p .code-whole; heap-whole = p .heap-whole; code-fits = omega arith; heap-fits = omega arith; regs-fit = p .regs-fit }
 
 -- the front of a room for w words that a buffer of b bytes fills
@@ -88,3 +91,5 @@ module _ (code heap regs : List ℕ) (budget n : ℕ) (e : n ≡ borderOf (lengt
   call-refuses a z p =
       not-equal (borderOf (length code) (length heap) (length regs) budget) 0 _ _ _ (λ h. z (e ∙ h))
       (ap (λ (k : ℕ). runCall k heap regs) (p ∙ ap (λ (k : ℕ). answerOf k 0 0) e))
+
+pub ruleset calls = (passes, call-runs, call-refuses)

@@ -102,8 +102,15 @@ fn run_in(
     run_over(c, h, registers(regs), budget, heap, regs)
 }
 
-// Words for the largest code, for the largest heap, and for small buffers: clearing room for the
-// largest would cost a short run more than the run itself.
+// Room for the words of a call. Clearing room for the largest heap takes longer than a short run, so
+// there are three sizes.
+
+fn small_room() -> [u32; SMALL_WORDS]
+    ensures { λ r. ⌜ length r ≡ SMALL-WORDS ⌝ }
+{
+    [0; SMALL_WORDS]
+}
+
 fn code_room() -> [u32; CODE_WORDS]
     ensures { λ r. ⌜ length r ≡ CODE-WORDS ⌝ }
 {
@@ -114,23 +121,6 @@ fn heap_room() -> [u32; HEAP_WORDS]
     ensures { λ r. ⌜ length r ≡ HEAP-WORDS ⌝ }
 {
     [0; HEAP_WORDS]
-}
-
-fn small_room() -> [u32; SMALL_WORDS]
-    ensures { λ r. ⌜ length r ≡ SMALL-WORDS ⌝ }
-{
-    [0; SMALL_WORDS]
-}
-
-fn run_large(code: &[u8], heap: &mut [u8], regs: &mut [u8], budget: u32) -> u64
-    requires { ⌜ Whole CODE-WORDS HEAP-WORDS (length (now code)) (length (now heap)) (length (now regs)) ⌝ }
-    ensures { λ a. ⌜ runCall a (now (heap .exit)) (now (regs .exit)) ≡ runBytesOf (now (code .entry)) (now (heap .entry)) (now (regs .entry)) budget ⌝ }
-{
-    let mut c = code_room();
-    let mut h = heap_room();
-    let n = code.len() / 4;
-    let m = heap.len() / 4;
-    run_in(&mut c[..n], &mut h[..m], code, heap, regs, budget)
 }
 
 fn run_small(code: &[u8], heap: &mut [u8], regs: &mut [u8], budget: u32) -> u64
@@ -144,6 +134,51 @@ fn run_small(code: &[u8], heap: &mut [u8], regs: &mut [u8], budget: u32) -> u64
     run_in(&mut c[..n], &mut h[..m], code, heap, regs, budget)
 }
 
+fn run_middle(code: &[u8], heap: &mut [u8], regs: &mut [u8], budget: u32) -> u64
+    requires { ⌜ Whole CODE-WORDS CODE-WORDS (length (now code)) (length (now heap)) (length (now regs)) ⌝ }
+    ensures { λ a. ⌜ runCall a (now (heap .exit)) (now (regs .exit)) ≡ runBytesOf (now (code .entry)) (now (heap .entry)) (now (regs .entry)) budget ⌝ }
+{
+    let mut c = code_room();
+    let mut h = code_room();
+    let n = code.len() / 4;
+    let m = heap.len() / 4;
+    run_in(&mut c[..n], &mut h[..m], code, heap, regs, budget)
+}
+
+fn run_large(code: &[u8], heap: &mut [u8], regs: &mut [u8], budget: u32) -> u64
+    requires { ⌜ Whole CODE-WORDS HEAP-WORDS (length (now code)) (length (now heap)) (length (now regs)) ⌝ }
+    ensures { λ a. ⌜ runCall a (now (heap .exit)) (now (regs .exit)) ≡ runBytesOf (now (code .entry)) (now (heap .entry)) (now (regs .entry)) budget ⌝ }
+{
+    let mut c = code_room();
+    let mut h = heap_room();
+    let n = code.len() / 4;
+    let m = heap.len() / 4;
+    run_in(&mut c[..n], &mut h[..m], code, heap, regs, budget)
+}
+
+// Tries the rooms from a size on: 0 small, 1 middle, then large. A size that is too small calls this
+// function again for the next, so that a small call does not make the large room's stack frame.
+fn run_from(size: u32, code: &[u8], heap: &mut [u8], regs: &mut [u8], budget: u32) -> u64
+    requires { ⌜ Whole CODE-WORDS HEAP-WORDS (length (now code)) (length (now heap)) (length (now regs)) ⌝ }
+    ensures { λ a. ⌜ runCall a (now (heap .exit)) (now (regs .exit)) ≡ runBytesOf (now (code .entry)) (now (heap .entry)) (now (regs .entry)) budget ⌝ }
+{
+    if size == 0 {
+        if code.len() <= SMALL_WORDS * 4 {
+            if heap.len() <= SMALL_WORDS * 4 {
+                return run_small(code, heap, regs, budget);
+            }
+        }
+        return run_from(1, code, heap, regs, budget);
+    }
+    if size == 1 {
+        if heap.len() <= CODE_WORDS * 4 {
+            return run_middle(code, heap, regs, budget);
+        }
+        return run_from(2, code, heap, regs, budget);
+    }
+    run_large(code, heap, regs, budget)
+}
+
 // Runs a code over a heap with the given registers, each lent as bytes. The answer holds the
 // refusal or the status, and the count of words acted on; heap and registers are then the run's, or
 // as they came where the run is refused.
@@ -153,12 +188,7 @@ pub extern "C" fn vans_run(code: &[u8], heap: &mut [u8], regs: &mut [u8], budget
 {
     let refused = border(code.len(), heap.len(), regs.len(), budget);
     if refused == 0 {
-        if code.len() <= SMALL_WORDS * 4 {
-            if heap.len() <= SMALL_WORDS * 4 {
-                return run_small(code, heap, regs, budget);
-            }
-        }
-        return run_large(code, heap, regs, budget);
+        return run_from(0, code, heap, regs, budget);
     }
     answer(refused, 0, 0)
 }

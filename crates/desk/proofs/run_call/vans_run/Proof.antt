@@ -1,5 +1,5 @@
 -- `vans_run` refuses, or runs in a room that is large enough.
-use Rattle.desk.specs.RunCallLaws.{passes, passes-small, call-runs, call-refuses}
+use Rattle.desk.specs.RunCallLaws.{calls}
 use borrow.Author.Needs.{needs}
 use Rattle.desk.proofs.run_call.vans_run.Statement.{statement}
 use Rattle.desk.proofs.run_call.vans_run.Tie as tie
@@ -9,15 +9,9 @@ vans-run-spec =
     tie.close
     (tie.spec
     (λ c κs. search needs)
+    (λ c κs. search (calls, needs))
     (λ c. search needs)
     (λ c. search needs)
-    (λ c κs. search (passes, passes-small, call-runs, call-refuses, needs))
-    (λ c. search needs)
-    (λ c. search needs)
-    (λ c. search (passes, passes-small, call-runs, call-refuses, needs))
-    (λ c κs. search (passes, passes-small, call-runs, call-refuses, needs))
-    (λ c. search needs)
-    (λ c. search needs)
-    (λ c. search (passes, passes-small, call-runs, call-refuses, needs))
+    (λ c. search (calls, needs))
     (λ c κs. search needs)
-    (λ c. search (passes, passes-small, call-runs, call-refuses, needs)))
+    (λ c. search (calls, needs)))
