@@ -1,6 +1,7 @@
--- what the C border answers, and what it leaves in each buffer
+-- What the C border answers, and what it leaves in each buffer. To believe it, read Bytes, Answer and RunCall; the rest are laws.
 pub mod Bytes  -- words as bytes, lowest first
+pub mod ByteLaws  -- bytes to words and back, both ways
 pub mod Answer  -- the one number that a call answers
 pub mod RunCall  -- vans_run: the bare machine on byte buffers
-pub mod ByteLaws  -- bytes to words and back, both ways
 pub mod RunCallLaws  -- for the proofs of the code of vans_run
+pub mod Unique  -- any two results that meet the promise are equal

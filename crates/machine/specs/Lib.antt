@@ -10,3 +10,4 @@ pub mod StepLaws  -- what a step does, reads and keeps
 pub mod Run  -- a run with a budget, and what the bare machine refuses
 pub mod RunLaws  -- a stopped machine stays; turns and ends of a run
 pub mod R0Laws  -- r0 is nobody's: what the state holds there may be put aside
+pub mod Unique  -- any two results that meet a promise are equal
