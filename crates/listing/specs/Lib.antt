@@ -1,0 +1,4 @@
+-- What a listing is, and how a packet is read.
+pub mod Limits  -- limits and refusals, each named once
+pub mod Grammar  -- which number is due, and what is due after it
+pub mod GrammarLaws  -- the grammar by what is due

@@ -1,0 +1,404 @@
+// Which number is due, and what is due after it. The grammar knows nothing of bytes or buffers, so a
+// reader of pieces and a writer can go by it too.
+use crate::limits::EDITION;
+use crate::limits::FIELDS;
+use crate::limits::ITEMS;
+use crate::limits::LABELS;
+use crate::limits::LEFT_OVER;
+use crate::limits::OUT_OF_RANGE;
+use crate::limits::REGISTERS;
+use crate::limits::SHAPES;
+use crate::limits::STACK;
+use crate::limits::TOP_IMMEDIATE;
+use crate::limits::TOP_ITEM;
+use crate::limits::TOP_LEVEL;
+use crate::limits::TOP_PART;
+use crate::limits::WRONG_EDITION;
+ghost use mathlib.Core.Path.{_≡_};
+ghost use Rattle.listing.specs.Grammar.{nextOf, withinOf, belowOf, shapesFrom, fieldsFrom, labelsFrom, stackFrom, registersFrom, itemsFrom, operandsFrom};
+
+// The number that is due. Kinds go up to shapes, labels below labels; `more` counts the shapes, labels
+// or items, and `fields`, `stack` and `registers` those parts, that are still to come after this one.
+pub enum Due {
+    Edition,
+    ShapeCount,
+    FieldCount {
+        shapes: u32,
+        more: u32,
+    },
+    FieldKind {
+        shapes: u32,
+        more: u32,
+        fields: u32,
+    },
+    FieldLevel {
+        shapes: u32,
+        more: u32,
+        fields: u32,
+    },
+    LabelCount {
+        shapes: u32,
+    },
+    LabelLevel {
+        shapes: u32,
+        labels: u32,
+        more: u32,
+    },
+    StackLength {
+        shapes: u32,
+        labels: u32,
+        more: u32,
+    },
+    StackLabel {
+        shapes: u32,
+        labels: u32,
+        more: u32,
+        stack: u32,
+    },
+    RegisterCount {
+        shapes: u32,
+        labels: u32,
+        more: u32,
+    },
+    // The index of the register before, 0 for the first: indices ascend.
+    RegisterIndex {
+        shapes: u32,
+        labels: u32,
+        more: u32,
+        registers: u32,
+        last: u32,
+    },
+    RegisterKind {
+        shapes: u32,
+        labels: u32,
+        more: u32,
+        registers: u32,
+        last: u32,
+    },
+    RegisterLevel {
+        shapes: u32,
+        labels: u32,
+        more: u32,
+        registers: u32,
+        last: u32,
+    },
+    ItemCount {
+        labels: u32,
+    },
+    ItemNumber {
+        labels: u32,
+        more: u32,
+    },
+    // An item's only or last operand, a label.
+    OperandLabel {
+        labels: u32,
+        more: u32,
+    },
+    // bnz's register, before its label.
+    BranchRegister {
+        labels: u32,
+        more: u32,
+    },
+    // Three operands: two registers or offsets, and a third up to `high`.
+    OperandFirst {
+        labels: u32,
+        more: u32,
+        high: u32,
+    },
+    OperandSecond {
+        labels: u32,
+        more: u32,
+        high: u32,
+    },
+    OperandThird {
+        labels: u32,
+        more: u32,
+        high: u32,
+    },
+    // Nothing more.
+    End,
+    // Nothing: the number before this was refused.
+    Refused(u8),
+}
+
+fn within(n: u32, low: u32, high: u32, after: Due) -> Due
+    ensures { λ r. ⌜ r ≡ withinOf n low high after ⌝ }
+{
+    if n < low {
+        Due::Refused(OUT_OF_RANGE)
+    } else if high < n {
+        Due::Refused(OUT_OF_RANGE)
+    } else {
+        after
+    }
+}
+
+fn below(n: u32, end: u32, after: Due) -> Due
+    ensures { λ r. ⌜ r ≡ belowOf n end after ⌝ }
+{
+    if n < end {
+        after
+    } else {
+        Due::Refused(OUT_OF_RANGE)
+    }
+}
+
+// What is due where n shapes, fields, labels, stack labels, registers or items are still to come.
+
+fn shapes_from(shapes: u32, n: u32) -> Due
+    ensures { λ r. ⌜ r ≡ shapesFrom shapes n ⌝ }
+{
+    if n == 0 {
+        Due::LabelCount { shapes }
+    } else {
+        Due::FieldCount {
+            shapes,
+            more: n - 1,
+        }
+    }
+}
+
+fn fields_from(shapes: u32, more: u32, n: u32) -> Due
+    ensures { λ r. ⌜ r ≡ fieldsFrom shapes more n ⌝ }
+{
+    if n == 0 {
+        shapes_from(shapes, more)
+    } else {
+        Due::FieldKind {
+            shapes,
+            more,
+            fields: n - 1,
+        }
+    }
+}
+
+fn labels_from(shapes: u32, labels: u32, n: u32) -> Due
+    ensures { λ r. ⌜ r ≡ labelsFrom shapes labels n ⌝ }
+{
+    if n == 0 {
+        Due::ItemCount { labels }
+    } else {
+        Due::LabelLevel {
+            shapes,
+            labels,
+            more: n - 1,
+        }
+    }
+}
+
+fn stack_from(shapes: u32, labels: u32, more: u32, n: u32) -> Due
+    ensures { λ r. ⌜ r ≡ stackFrom shapes labels more n ⌝ }
+{
+    if n == 0 {
+        Due::RegisterCount {
+            shapes,
+            labels,
+            more,
+        }
+    } else {
+        Due::StackLabel {
+            shapes,
+            labels,
+            more,
+            stack: n - 1,
+        }
+    }
+}
+
+fn registers_from(shapes: u32, labels: u32, more: u32, n: u32, last: u32) -> Due
+    ensures { λ r. ⌜ r ≡ registersFrom shapes labels more n last ⌝ }
+{
+    if n == 0 {
+        labels_from(shapes, labels, more)
+    } else {
+        Due::RegisterIndex {
+            shapes,
+            labels,
+            more,
+            registers: n - 1,
+            last,
+        }
+    }
+}
+
+fn items_from(labels: u32, n: u32) -> Due
+    ensures { λ r. ⌜ r ≡ itemsFrom labels n ⌝ }
+{
+    if n == 0 {
+        Due::End
+    } else {
+        Due::ItemNumber {
+            labels,
+            more: n - 1,
+        }
+    }
+}
+
+// The operands of an item number.
+fn operands_from(labels: u32, more: u32, item: u32) -> Due
+    ensures { λ r. ⌜ r ≡ operandsFrom labels more item ⌝ }
+{
+    match item {
+        0 => items_from(labels, more),
+        1 => Due::OperandLabel { labels, more },
+        2 => Due::BranchRegister { labels, more },
+        3..=9 => Due::OperandFirst {
+            labels,
+            more,
+            high: TOP_PART,
+        },
+        10..=14 => Due::OperandFirst {
+            labels,
+            more,
+            high: TOP_IMMEDIATE,
+        },
+        _ => Due::OperandLabel { labels, more },
+    }
+}
+
+// What is due after the number n, or that n is refused.
+pub fn next(due: Due, n: u32) -> Due
+    ensures { λ r. ⌜ r ≡ nextOf due n ⌝ }
+{
+    match due {
+        Due::Edition => if n == EDITION {
+            Due::ShapeCount
+        } else {
+            Due::Refused(WRONG_EDITION)
+        },
+        Due::ShapeCount => within(n, 0, SHAPES, shapes_from(n, n)),
+        Due::FieldCount { shapes, more } => within(n, 1, FIELDS, fields_from(shapes, more, n)),
+        Due::FieldKind {
+            shapes,
+            more,
+            fields,
+        } => within(
+            n,
+            0,
+            shapes,
+            Due::FieldLevel {
+                shapes,
+                more,
+                fields,
+            },
+        ),
+        Due::FieldLevel {
+            shapes,
+            more,
+            fields,
+        } => within(n, 0, TOP_LEVEL, fields_from(shapes, more, fields)),
+        Due::LabelCount { shapes } => within(n, 1, LABELS, labels_from(shapes, n, n)),
+        Due::LabelLevel {
+            shapes,
+            labels,
+            more,
+        } => within(
+            n,
+            0,
+            TOP_LEVEL,
+            Due::StackLength {
+                shapes,
+                labels,
+                more,
+            },
+        ),
+        Due::StackLength {
+            shapes,
+            labels,
+            more,
+        } => within(n, 0, STACK, stack_from(shapes, labels, more, n)),
+        Due::StackLabel {
+            shapes,
+            labels,
+            more,
+            stack,
+        } => below(n, labels, stack_from(shapes, labels, more, stack)),
+        Due::RegisterCount {
+            shapes,
+            labels,
+            more,
+        } => within(n, 0, REGISTERS, registers_from(shapes, labels, more, n, 0)),
+        Due::RegisterIndex {
+            shapes,
+            labels,
+            more,
+            registers,
+            last,
+        } => {
+            if last < n {
+                within(
+                    n,
+                    1,
+                    TOP_PART,
+                    Due::RegisterKind {
+                        shapes,
+                        labels,
+                        more,
+                        registers,
+                        last: n,
+                    },
+                )
+            } else {
+                Due::Refused(OUT_OF_RANGE)
+            }
+        }
+        Due::RegisterKind {
+            shapes,
+            labels,
+            more,
+            registers,
+            last,
+        } => {
+            within(
+                n,
+                0,
+                shapes,
+                Due::RegisterLevel {
+                    shapes,
+                    labels,
+                    more,
+                    registers,
+                    last,
+                },
+            )
+        }
+        Due::RegisterLevel {
+            shapes,
+            labels,
+            more,
+            registers,
+            last,
+        } => {
+            within(
+                n,
+                0,
+                TOP_LEVEL,
+                registers_from(shapes, labels, more, registers, last),
+            )
+        }
+        Due::ItemCount { labels } => within(n, 1, ITEMS, items_from(labels, n)),
+        Due::ItemNumber { labels, more } => within(n, 0, TOP_ITEM, operands_from(labels, more, n)),
+        Due::OperandLabel { labels, more } => below(n, labels, items_from(labels, more)),
+        Due::BranchRegister { labels, more } => within(
+            n,
+            0,
+            TOP_PART,
+            Due::OperandLabel { labels, more },
+        ),
+        Due::OperandFirst { labels, more, high } => within(
+            n,
+            0,
+            TOP_PART,
+            Due::OperandSecond { labels, more, high },
+        ),
+        Due::OperandSecond { labels, more, high } => within(
+            n,
+            0,
+            TOP_PART,
+            Due::OperandThird { labels, more, high },
+        ),
+        Due::OperandThird { labels, more, high } => within(n, 0, high, items_from(labels, more)),
+        Due::End => Due::Refused(LEFT_OVER),
+        Due::Refused(k) => Due::Refused(k),
+    }
+}

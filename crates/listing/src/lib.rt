@@ -1,0 +1,7 @@
+// What a listing is, and the reader of packets: any bytes come in; the listing's numbers in order, or a
+// named refusal with its place, come out. Read specs/Grammar.antt first.
+mod grammar;
+pub mod limits;
+
+pub use grammar::Due;
+pub use grammar::next;
