@@ -2,16 +2,18 @@
 use Prim.Native.Nat.{ℕ, _<_, _≤_}
 use mathlib.Core.Path.{_≡_, refl, sym, ap, _∙_}
 use Rattle.choice.specs.Pick.{is-less, not-less, is-equal, not-equal}
+use Rattle.listing.specs.declared.grammar.Wanted.{Wanted}
+use Rattle.listing.specs.declared.grammar.Wanted.the-variants.{Edition, ShapeCount, FieldCount, FieldKind, FieldLevel, LabelCount, LabelLevel, StackLength, StackLabel, RegisterCount, RegisterIndex, RegisterKind, RegisterLevel, ItemCount, ItemNumber, OperandLabel, BranchRegister, OperandFirst, OperandSecond, OperandThird}
 use Rattle.listing.specs.declared.grammar.Due.{Due}
-use Rattle.listing.specs.declared.grammar.Due.the-variants.{Edition, ShapeCount, FieldCount, FieldKind, FieldLevel, LabelCount, LabelLevel, StackLength, StackLabel, RegisterCount, RegisterIndex, RegisterKind, RegisterLevel, ItemCount, ItemNumber, OperandLabel, BranchRegister, OperandFirst, OperandSecond, OperandThird, End, Refused}
-use Rattle.listing.specs.Limits.{EDITION, SHAPES, FIELDS, LABELS, STACK, REGISTERS, ITEMS, TOP-LEVEL, TOP-PART, TOP-IMMEDIATE, TOP-ITEM, WRONG-EDITION, OUT-OF-RANGE, LEFT-OVER}
+use Rattle.listing.specs.declared.grammar.Due.the-variants.{Next, End, Refused}
+use Rattle.listing.specs.Limits.{EDITION, SHAPES, FIELDS, LABELS, STACK, REGISTERS, ITEMS, TOP-LEVEL, TOP-PART, TOP-IMMEDIATE, TOP-ITEM, WRONG-EDITION, OUT-OF-RANGE}
 use Rattle.listing.specs.Grammar.{withinOf, belowOf, shapesFrom, fieldsFrom, labelsFrom, stackFrom, registersFrom, itemsFrom, operandsFrom, nextOf}
 
-module _ (due : Due) (n : ℕ) (r : Due) where
-  at-due : (d : Due) → due ≡ d → r ≡ nextOf d n → r ≡ nextOf due n
-  at-due d e p = p ∙ ap (λ (x : Due). nextOf x n) (sym e)
+module _ (due : Wanted) (n : ℕ) (r : Due) where
+  at-due : (d : Wanted) → due ≡ d → r ≡ nextOf d n → r ≡ nextOf due n
+  at-due d e p = p ∙ ap (λ (x : Wanted). nextOf x n) (sym e)
 
-  pub due-edition : due ≡ Edition → n ≡ EDITION → r ≡ ShapeCount → r ≡ nextOf due n
+  pub due-edition : due ≡ Edition → n ≡ EDITION → r ≡ Next ShapeCount → r ≡ nextOf due n
   unfolding nextOf
   due-edition e h p = at-due Edition e (is-equal n EDITION _ _ _ h p)
 
@@ -20,7 +22,7 @@ module _ (due : Due) (n : ℕ) (r : Due) where
   due-other-edition e h p = at-due Edition e (not-equal n EDITION _ _ _ h p)
 
   pub due-register-index : (shapes labels more registers last : ℕ) → due ≡ RegisterIndex shapes labels more registers last → last < n
-      → r ≡ withinOf n 1 TOP-PART (RegisterKind shapes labels more registers n) → r ≡ nextOf due n
+      → r ≡ withinOf n 1 TOP-PART (Next (RegisterKind shapes labels more registers n)) → r ≡ nextOf due n
   unfolding nextOf
   due-register-index shapes labels more registers last e h p = at-due (RegisterIndex shapes labels more registers last) e (is-less last n _ _ _ h p)
 
@@ -28,14 +30,6 @@ module _ (due : Due) (n : ℕ) (r : Due) where
       → r ≡ Refused OUT-OF-RANGE → r ≡ nextOf due n
   unfolding nextOf
   due-register-before shapes labels more registers last e h p = at-due (RegisterIndex shapes labels more registers last) e (not-less last n _ _ _ h p)
-
-  pub due-end : due ≡ End → r ≡ Refused LEFT-OVER → r ≡ nextOf due n
-  unfolding nextOf
-  due-end e p = at-due End e p
-
-  pub due-refused : (k : ℕ) → due ≡ Refused k → r ≡ Refused k → r ≡ nextOf due n
-  unfolding nextOf
-  due-refused k e p = at-due (Refused k) e p
 
   pub due-shape-count : (x : Due) → due ≡ ShapeCount → x ≡ shapesFrom n n → r ≡ withinOf n 0 SHAPES x → r ≡ nextOf due n
   unfolding nextOf
@@ -45,7 +39,7 @@ module _ (due : Due) (n : ℕ) (r : Due) where
   unfolding nextOf
   due-field-count shapes more x e a p = at-due (FieldCount shapes more) e (p ∙ ap (withinOf n 1 FIELDS) a)
 
-  pub due-field-kind : (shapes more fields : ℕ) → due ≡ FieldKind shapes more fields → r ≡ withinOf n 0 shapes (FieldLevel shapes more fields) → r ≡ nextOf due n
+  pub due-field-kind : (shapes more fields : ℕ) → due ≡ FieldKind shapes more fields → r ≡ withinOf n 0 shapes (Next (FieldLevel shapes more fields)) → r ≡ nextOf due n
   unfolding nextOf
   due-field-kind shapes more fields e p = at-due (FieldKind shapes more fields) e p
 
@@ -57,7 +51,7 @@ module _ (due : Due) (n : ℕ) (r : Due) where
   unfolding nextOf
   due-label-count shapes x e a p = at-due (LabelCount shapes) e (p ∙ ap (withinOf n 1 LABELS) a)
 
-  pub due-label-level : (shapes labels more : ℕ) → due ≡ LabelLevel shapes labels more → r ≡ withinOf n 0 TOP-LEVEL (StackLength shapes labels more) → r ≡ nextOf due n
+  pub due-label-level : (shapes labels more : ℕ) → due ≡ LabelLevel shapes labels more → r ≡ withinOf n 0 TOP-LEVEL (Next (StackLength shapes labels more)) → r ≡ nextOf due n
   unfolding nextOf
   due-label-level shapes labels more e p = at-due (LabelLevel shapes labels more) e p
 
@@ -73,7 +67,7 @@ module _ (due : Due) (n : ℕ) (r : Due) where
   unfolding nextOf
   due-register-count shapes labels more x e a p = at-due (RegisterCount shapes labels more) e (p ∙ ap (withinOf n 0 REGISTERS) a)
 
-  pub due-register-kind : (shapes labels more registers last : ℕ) → due ≡ RegisterKind shapes labels more registers last → r ≡ withinOf n 0 shapes (RegisterLevel shapes labels more registers last) → r ≡ nextOf due n
+  pub due-register-kind : (shapes labels more registers last : ℕ) → due ≡ RegisterKind shapes labels more registers last → r ≡ withinOf n 0 shapes (Next (RegisterLevel shapes labels more registers last)) → r ≡ nextOf due n
   unfolding nextOf
   due-register-kind shapes labels more registers last e p = at-due (RegisterKind shapes labels more registers last) e p
 
@@ -93,15 +87,15 @@ module _ (due : Due) (n : ℕ) (r : Due) where
   unfolding nextOf
   due-operand-label labels more x e a p = at-due (OperandLabel labels more) e (p ∙ ap (belowOf n labels) a)
 
-  pub due-branch-register : (labels more : ℕ) → due ≡ BranchRegister labels more → r ≡ withinOf n 0 TOP-PART (OperandLabel labels more) → r ≡ nextOf due n
+  pub due-branch-register : (labels more : ℕ) → due ≡ BranchRegister labels more → r ≡ withinOf n 0 TOP-PART (Next (OperandLabel labels more)) → r ≡ nextOf due n
   unfolding nextOf
   due-branch-register labels more e p = at-due (BranchRegister labels more) e p
 
-  pub due-operand-first : (labels more high : ℕ) → due ≡ OperandFirst labels more high → r ≡ withinOf n 0 TOP-PART (OperandSecond labels more high) → r ≡ nextOf due n
+  pub due-operand-first : (labels more high : ℕ) → due ≡ OperandFirst labels more high → r ≡ withinOf n 0 TOP-PART (Next (OperandSecond labels more high)) → r ≡ nextOf due n
   unfolding nextOf
   due-operand-first labels more high e p = at-due (OperandFirst labels more high) e p
 
-  pub due-operand-second : (labels more high : ℕ) → due ≡ OperandSecond labels more high → r ≡ withinOf n 0 TOP-PART (OperandThird labels more high) → r ≡ nextOf due n
+  pub due-operand-second : (labels more high : ℕ) → due ≡ OperandSecond labels more high → r ≡ withinOf n 0 TOP-PART (Next (OperandThird labels more high)) → r ≡ nextOf due n
   unfolding nextOf
   due-operand-second labels more high e p = at-due (OperandSecond labels more high) e p
 
@@ -109,4 +103,4 @@ module _ (due : Due) (n : ℕ) (r : Due) where
   unfolding nextOf
   due-operand-third labels more high x e a p = at-due (OperandThird labels more high) e (p ∙ ap (withinOf n 0 high) a)
 
-pub ruleset dues = (refl, due-edition, due-other-edition, due-register-index, due-register-before, due-end, due-refused, due-shape-count, due-field-count, due-field-kind, due-field-level, due-label-count, due-label-level, due-stack-length, due-stack-label, due-register-count, due-register-kind, due-register-level, due-item-count, due-item-number, due-operand-label, due-branch-register, due-operand-first, due-operand-second, due-operand-third)
+pub ruleset dues = (refl, due-edition, due-other-edition, due-register-index, due-register-before, due-shape-count, due-field-count, due-field-kind, due-field-level, due-label-count, due-label-level, due-stack-length, due-stack-label, due-register-count, due-register-kind, due-register-level, due-item-count, due-item-number, due-operand-label, due-branch-register, due-operand-first, due-operand-second, due-operand-third)

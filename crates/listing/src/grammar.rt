@@ -4,7 +4,6 @@ use crate::limits::EDITION;
 use crate::limits::FIELDS;
 use crate::limits::ITEMS;
 use crate::limits::LABELS;
-use crate::limits::LEFT_OVER;
 use crate::limits::OUT_OF_RANGE;
 use crate::limits::REGISTERS;
 use crate::limits::SHAPES;
@@ -19,7 +18,7 @@ ghost use Rattle.listing.specs.Grammar.{nextOf, withinOf, belowOf, shape
 
 // The number that is due. Kinds go up to shapes, labels below labels; `more` counts the shapes, labels
 // or items, and `fields`, `stack` and `registers` those parts, that are still to come after this one.
-pub enum Due {
+pub enum Wanted {
     Edition,
     ShapeCount,
     FieldCount {
@@ -115,9 +114,12 @@ pub enum Due {
         more: u32,
         high: u32,
     },
-    // Nothing more.
+}
+
+// What is due: a number, nothing more, or nothing because the number before was refused.
+pub enum Due {
+    Next(Wanted),
     End,
-    // Nothing: the number before this was refused.
     Refused(u8),
 }
 
@@ -149,12 +151,12 @@ fn shapes_from(shapes: u32, n: u32) -> Due
     ensures { λ r. ⌜ r ≡ shapesFrom shapes n ⌝ }
 {
     if n == 0 {
-        Due::LabelCount { shapes }
+        Due::Next(Wanted::LabelCount { shapes })
     } else {
-        Due::FieldCount {
+        Due::Next(Wanted::FieldCount {
             shapes,
             more: n - 1,
-        }
+        })
     }
 }
 
@@ -164,11 +166,11 @@ fn fields_from(shapes: u32, more: u32, n: u32) -> Due
     if n == 0 {
         shapes_from(shapes, more)
     } else {
-        Due::FieldKind {
+        Due::Next(Wanted::FieldKind {
             shapes,
             more,
             fields: n - 1,
-        }
+        })
     }
 }
 
@@ -176,13 +178,13 @@ fn labels_from(shapes: u32, labels: u32, n: u32) -> Due
     ensures { λ r. ⌜ r ≡ labelsFrom shapes labels n ⌝ }
 {
     if n == 0 {
-        Due::ItemCount { labels }
+        Due::Next(Wanted::ItemCount { labels })
     } else {
-        Due::LabelLevel {
+        Due::Next(Wanted::LabelLevel {
             shapes,
             labels,
             more: n - 1,
-        }
+        })
     }
 }
 
@@ -190,18 +192,18 @@ fn stack_from(shapes: u32, labels: u32, more: u32, n: u32) -> Due
     ensures { λ r. ⌜ r ≡ stackFrom shapes labels more n ⌝ }
 {
     if n == 0 {
-        Due::RegisterCount {
+        Due::Next(Wanted::RegisterCount {
             shapes,
             labels,
             more,
-        }
+        })
     } else {
-        Due::StackLabel {
+        Due::Next(Wanted::StackLabel {
             shapes,
             labels,
             more,
             stack: n - 1,
-        }
+        })
     }
 }
 
@@ -211,13 +213,13 @@ fn registers_from(shapes: u32, labels: u32, more: u32, n: u32, last: u32) -> Due
     if n == 0 {
         labels_from(shapes, labels, more)
     } else {
-        Due::RegisterIndex {
+        Due::Next(Wanted::RegisterIndex {
             shapes,
             labels,
             more,
             registers: n - 1,
             last,
-        }
+        })
     }
 }
 
@@ -227,10 +229,10 @@ fn items_from(labels: u32, n: u32) -> Due
     if n == 0 {
         Due::End
     } else {
-        Due::ItemNumber {
+        Due::Next(Wanted::ItemNumber {
             labels,
             more: n - 1,
-        }
+        })
     }
 }
 
@@ -240,35 +242,35 @@ fn operands_from(labels: u32, more: u32, item: u32) -> Due
 {
     match item {
         0 => items_from(labels, more),
-        1 => Due::OperandLabel { labels, more },
-        2 => Due::BranchRegister { labels, more },
-        3..=9 => Due::OperandFirst {
+        1 => Due::Next(Wanted::OperandLabel { labels, more }),
+        2 => Due::Next(Wanted::BranchRegister { labels, more }),
+        3..=9 => Due::Next(Wanted::OperandFirst {
             labels,
             more,
             high: TOP_PART,
-        },
-        10..=14 => Due::OperandFirst {
+        }),
+        10..=14 => Due::Next(Wanted::OperandFirst {
             labels,
             more,
             high: TOP_IMMEDIATE,
-        },
-        _ => Due::OperandLabel { labels, more },
+        }),
+        _ => Due::Next(Wanted::OperandLabel { labels, more }),
     }
 }
 
 // What is due after the number n, or that n is refused.
-pub fn next(due: Due, n: u32) -> Due
-    ensures { λ r. ⌜ r ≡ nextOf due n ⌝ }
+pub fn next(wanted: Wanted, n: u32) -> Due
+    ensures { λ r. ⌜ r ≡ nextOf wanted n ⌝ }
 {
-    match due {
-        Due::Edition => if n == EDITION {
-            Due::ShapeCount
+    match wanted {
+        Wanted::Edition => if n == EDITION {
+            Due::Next(Wanted::ShapeCount)
         } else {
             Due::Refused(WRONG_EDITION)
         },
-        Due::ShapeCount => within(n, 0, SHAPES, shapes_from(n, n)),
-        Due::FieldCount { shapes, more } => within(n, 1, FIELDS, fields_from(shapes, more, n)),
-        Due::FieldKind {
+        Wanted::ShapeCount => within(n, 0, SHAPES, shapes_from(n, n)),
+        Wanted::FieldCount { shapes, more } => within(n, 1, FIELDS, fields_from(shapes, more, n)),
+        Wanted::FieldKind {
             shapes,
             more,
             fields,
@@ -276,19 +278,19 @@ pub fn next(due: Due, n: u32) -> Due
             n,
             0,
             shapes,
-            Due::FieldLevel {
+            Due::Next(Wanted::FieldLevel {
                 shapes,
                 more,
                 fields,
-            },
+            }),
         ),
-        Due::FieldLevel {
+        Wanted::FieldLevel {
             shapes,
             more,
             fields,
         } => within(n, 0, TOP_LEVEL, fields_from(shapes, more, fields)),
-        Due::LabelCount { shapes } => within(n, 1, LABELS, labels_from(shapes, n, n)),
-        Due::LabelLevel {
+        Wanted::LabelCount { shapes } => within(n, 1, LABELS, labels_from(shapes, n, n)),
+        Wanted::LabelLevel {
             shapes,
             labels,
             more,
@@ -296,29 +298,29 @@ pub fn next(due: Due, n: u32) -> Due
             n,
             0,
             TOP_LEVEL,
-            Due::StackLength {
+            Due::Next(Wanted::StackLength {
                 shapes,
                 labels,
                 more,
-            },
+            }),
         ),
-        Due::StackLength {
+        Wanted::StackLength {
             shapes,
             labels,
             more,
         } => within(n, 0, STACK, stack_from(shapes, labels, more, n)),
-        Due::StackLabel {
+        Wanted::StackLabel {
             shapes,
             labels,
             more,
             stack,
         } => below(n, labels, stack_from(shapes, labels, more, stack)),
-        Due::RegisterCount {
+        Wanted::RegisterCount {
             shapes,
             labels,
             more,
         } => within(n, 0, REGISTERS, registers_from(shapes, labels, more, n, 0)),
-        Due::RegisterIndex {
+        Wanted::RegisterIndex {
             shapes,
             labels,
             more,
@@ -330,19 +332,19 @@ pub fn next(due: Due, n: u32) -> Due
                     n,
                     1,
                     TOP_PART,
-                    Due::RegisterKind {
+                    Due::Next(Wanted::RegisterKind {
                         shapes,
                         labels,
                         more,
                         registers,
                         last: n,
-                    },
+                    }),
                 )
             } else {
                 Due::Refused(OUT_OF_RANGE)
             }
         }
-        Due::RegisterKind {
+        Wanted::RegisterKind {
             shapes,
             labels,
             more,
@@ -353,16 +355,16 @@ pub fn next(due: Due, n: u32) -> Due
                 n,
                 0,
                 shapes,
-                Due::RegisterLevel {
+                Due::Next(Wanted::RegisterLevel {
                     shapes,
                     labels,
                     more,
                     registers,
                     last,
-                },
+                }),
             )
         }
-        Due::RegisterLevel {
+        Wanted::RegisterLevel {
             shapes,
             labels,
             more,
@@ -376,29 +378,32 @@ pub fn next(due: Due, n: u32) -> Due
                 registers_from(shapes, labels, more, registers, last),
             )
         }
-        Due::ItemCount { labels } => within(n, 1, ITEMS, items_from(labels, n)),
-        Due::ItemNumber { labels, more } => within(n, 0, TOP_ITEM, operands_from(labels, more, n)),
-        Due::OperandLabel { labels, more } => below(n, labels, items_from(labels, more)),
-        Due::BranchRegister { labels, more } => within(
+        Wanted::ItemCount { labels } => within(n, 1, ITEMS, items_from(labels, n)),
+        Wanted::ItemNumber { labels, more } => within(
+            n,
+            0,
+            TOP_ITEM,
+            operands_from(labels, more, n),
+        ),
+        Wanted::OperandLabel { labels, more } => below(n, labels, items_from(labels, more)),
+        Wanted::BranchRegister { labels, more } => within(
             n,
             0,
             TOP_PART,
-            Due::OperandLabel { labels, more },
+            Due::Next(Wanted::OperandLabel { labels, more }),
         ),
-        Due::OperandFirst { labels, more, high } => within(
+        Wanted::OperandFirst { labels, more, high } => within(
             n,
             0,
             TOP_PART,
-            Due::OperandSecond { labels, more, high },
+            Due::Next(Wanted::OperandSecond { labels, more, high }),
         ),
-        Due::OperandSecond { labels, more, high } => within(
+        Wanted::OperandSecond { labels, more, high } => within(
             n,
             0,
             TOP_PART,
-            Due::OperandThird { labels, more, high },
+            Due::Next(Wanted::OperandThird { labels, more, high }),
         ),
-        Due::OperandThird { labels, more, high } => within(n, 0, high, items_from(labels, more)),
-        Due::End => Due::Refused(LEFT_OVER),
-        Due::Refused(k) => Due::Refused(k),
+        Wanted::OperandThird { labels, more, high } => within(n, 0, high, items_from(labels, more)),
     }
 }

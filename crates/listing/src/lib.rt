@@ -4,4 +4,5 @@ mod grammar;
 pub mod limits;
 
 pub use grammar::Due;
+pub use grammar::Wanted;
 pub use grammar::next;

@@ -1,3 +1,4 @@
+-- `below`: each branch is a case of the definition.
 use Rattle.listing.specs.Grammar.{belowOf}
 use Rattle.choice.specs.Pick.{cases}
 use borrow.Author.Needs.{needs}

@@ -1,3 +1,4 @@
+-- `items_from`: each branch is a case of the definition.
 use Rattle.listing.specs.Grammar.{itemsFrom}
 use Rattle.choice.specs.Pick.{cases}
 use borrow.Author.Needs.{needs}

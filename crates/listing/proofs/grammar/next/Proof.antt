@@ -1,3 +1,4 @@
+-- `next` goes by what is wanted: each arm is a law of the grammar.
 use Rattle.listing.specs.GrammarLaws.{dues}
 use borrow.Author.Needs.{needs}
 use Rattle.listing.proofs.grammar.next.Statement.{statement}
@@ -58,10 +59,6 @@ next-spec =
     (λ c. search needs)
     (λ c κs. search needs)
     (λ c κs. search needs)
-    (λ c. search needs)
-    (λ c. search needs)
-    (λ c. search (dues, needs))
-    (λ c. search (dues, needs))
     (λ c. search (dues, needs))
     (λ c. search (dues, needs))
     (λ c. search (dues, needs))

@@ -1,3 +1,4 @@
+-- `registers_from`: each branch is a case of the definition.
 use Rattle.listing.specs.Grammar.{registersFrom}
 use Rattle.choice.specs.Pick.{cases}
 use borrow.Author.Needs.{needs}

@@ -1,3 +1,4 @@
+-- `within`: each branch is a case of the definition.
 use Rattle.listing.specs.Grammar.{withinOf}
 use Rattle.choice.specs.Pick.{cases}
 use borrow.Author.Needs.{needs}
