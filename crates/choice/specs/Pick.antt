@@ -39,12 +39,17 @@ module _ {A : Type 0} where
 
 pub ruleset cases = (refl, other-literal, is-less, not-less, is-equal, not-equal, is-true, is-false)
 
--- what holds of both ways holds of the choice; a function goes through a choice; what a choice is, one of its ways is
+-- what holds of both ways, each under its test, holds of the choice; a function goes through a choice; what a choice is, one of its ways is
 module _ {A : Type 0} where
   pub both : (P : A → Type 0) (t : Bool) (x y : A) → P x → P y → P (pick t x y)
   unfolding pick
   both P true x y p q = p
   both P false x y p q = q
+
+  pub each-way : (P : A → Type 0) (t : Bool) (x y : A) → (t ≡ true → P x) → (t ≡ false → P y) → P (pick t x y)
+  unfolding pick
+  each-way P true x y p q = p refl
+  each-way P false x y p q = q refl
 
   pub through : {B : Type 0} (f : A → B) (t : Bool) (x y : A) → f (pick t x y) ≡ pick t (f x) (f y)
   unfolding pick

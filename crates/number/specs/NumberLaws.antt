@@ -2,14 +2,15 @@
 use Prim.Native.Nat.{ℕ, zero, suc, _+_, _-_, _*_, _%_, _^_, _<_, _≤_}
 use native.Mathlib.Nat.{add-comm, mul-comm, mul-le-mul, le-of-lt, lt-of-le-of-lt, pow-suc, pow-le-pow-right}
 use native.Mathlib.Omega.{arith}
-use mathlib.Core.Path.{_≡_, refl, sym, ap, _∙_}
+use mathlib.Core.Path.{_≡_, refl, sym, ap, subst, _∙_}
 use mathlib.Core.List.{List}
 use lib.Arith.{digits-lt}
 use mir.Syntax.{w64}
 use mir.Val.{Fits}
-use lib.Dec.{lit<}
+use lib.Dec.{lit<, ltb, eqb}
 use lib.ListN.{length, getD}
-use Rattle.choice.specs.Pick.{is-less, not-less}
+use borrow.Author.Tests.{ltb-true}
+use Rattle.choice.specs.Pick.{is-less, not-less, both, each-way}
 use Rattle.number.specs.declared.Found.{Found}
 use Rattle.number.specs.declared.Found.the-variants.{Number, Ended, Malformed}
 use Rattle.number.specs.Number.{GROUPS, CONTINUES, malformedOf, lastOf, groupsOf, readOf}
@@ -87,3 +88,37 @@ module _ (whole : Found) (left : ℕ) (bytes : List ℕ) (first at v scale : ℕ
       p ∙ sym (inv ∙ ap (λ (n : ℕ). groupsOf n bytes first at v scale) e)
 
 pub ruleset groups = (scale-first, scale-next, scale-fits, scale-times-fits, group-below, goes-on, at-last, at-end, too-long)
+
+-- a number's next place lies behind the place that it is read at, and within the packet
+unfoldable pub Placed : ℕ → ℕ → Found → Type 0
+Placed at end (Number v next) = (at < next) × (next ≤ end)
+Placed at end Ended = Unit {0}
+Placed at end (Malformed place) = Unit {0}
+
+placed-later : (at end : ℕ) (r : Found) → Placed (at + 1) end r → Placed at end r
+unfolding Placed
+placed-later at end (Number v next) p = omega arith
+placed-later at end Ended p = p
+placed-later at end (Malformed place) p = p
+
+last-placed : (v scale b first at : ℕ) (bytes : List ℕ) → at < length bytes → Placed at (length bytes) (lastOf v scale b first at)
+unfolding Placed lastOf
+last-placed v scale b first at bytes h =
+    both (Placed at (length bytes)) (eqb b 0) _ _
+    (both (Placed at (length bytes)) (eqb at first) _ _ (omega arith) tt)
+    (both (Placed at (length bytes)) (ltb (v + b * scale) (2 ^ 32)) _ _ (omega arith) tt)
+
+groups-placed : (left : ℕ) (bytes : List ℕ) (first at v scale : ℕ) → Placed at (length bytes) (groupsOf left bytes first at v scale)
+unfolding Placed groupsOf
+groups-placed zero bytes first at v scale = tt
+groups-placed (suc left) bytes first at v scale =
+    each-way (Placed at (length bytes)) (ltb at (length bytes)) _ _
+    (λ h.
+    both (Placed at (length bytes)) (ltb (getD bytes at 0) CONTINUES) _ _
+    (last-placed v scale (getD bytes at 0) first at bytes (ltb-true at (length bytes) h))
+    (placed-later at (length bytes) (groupsOf left bytes first (at + 1) (v + getD bytes at 0 % 128 * scale) (scale * 128)) (groups-placed left bytes first (at + 1) (v + getD bytes at 0 % 128 * scale) (scale * 128))))
+    (λ h. tt)
+
+pub number-placed : (bytes : List ℕ) (at v next : ℕ) (r : Found) → r ≡ readOf bytes at → r ≡ Number v next → (at < next) × (next ≤ length bytes)
+unfolding Placed
+number-placed bytes at v next r e p = subst (Placed at (length bytes)) (sym e ∙ p) (groups-placed GROUPS bytes at at 0 1)
