@@ -1,13 +1,18 @@
-//! The second program: the bare machine and its call on byte buffers, written
-//! from 01 alone, and the proved call beside it. Read `machine` first, then
-//! `run_call`; `tests/run_call` compares the two calls, `bin/bench` times them.
+//! The second program: the packet reader and the bare machine with their calls on
+//! byte buffers, written from 01 alone, and the proved calls beside them. Read
+//! `packet` and `machine` first, then `read_call` and `run_call`; `tests/packet`
+//! and `tests/run_call` compare the calls, `bin/bench` times them.
 
 #![deny(unsafe_code)]
 
+pub mod answer;
 pub mod bytes;
 pub mod cases;
+pub mod lent;
 pub mod machine;
+pub mod packet;
 pub mod proved;
 pub mod random;
+pub mod read_call;
 pub mod run_call;
 pub mod word;

@@ -1,5 +1,12 @@
 //! A small seeded generator (splitmix64), so that every case can be made again.
 
+use std::env;
+
+/// The seed of a comparison: PEER_SEED, or 1.
+pub fn seed() -> u64 {
+    env::var("PEER_SEED").map_or(1, |seed| seed.parse().expect("PEER_SEED is a number"))
+}
+
 pub struct Random {
     state: u64,
 }

@@ -1,5 +1,6 @@
 //! The bare machine's call on byte buffers, as the C program has it.
 
+use crate::answer;
 use crate::bytes::{registers_of, words_of, write_words};
 use crate::machine;
 
@@ -25,25 +26,15 @@ pub fn refusals(code: usize, heap: usize, regs: usize, budget: u32) -> impl Iter
     .filter_map(|(number, applies)| applies.then_some(number))
 }
 
-/// number * 2^56 + place * 2^32 + count; the bare machine's places are all 0.
-fn answer(number: u8, count: u32) -> u64 {
-    u64::from(number) << 56 | u64::from(count)
-}
-
-/// Number and count of an answer.
-pub fn number_and_count(answer: u64) -> (u8, u32) {
-    ((answer >> 56) as u8, answer as u32)
-}
-
-/// Runs the code, or refuses and leaves the lent buffers as they are.
+/// Runs the code, or refuses and leaves the lent buffers as they are. All places are 0.
 pub fn run(code: &[u8], heap: &mut [u8], regs: &mut [u8], budget: u32) -> u64 {
     if let Some(number) = refusals(code.len(), heap.len(), regs.len(), budget).next() {
-        return answer(number, 0);
+        return answer::pack(number, 0, 0);
     }
     let mut heap_words = words_of(heap);
     let mut registers = registers_of(regs);
     let (status, count) = machine::run(&words_of(code), &mut heap_words, &mut registers, budget);
     write_words(&heap_words, heap);
     write_words(&registers, regs);
-    answer(status as u8, count)
+    answer::pack(status as u8, 0, count)
 }

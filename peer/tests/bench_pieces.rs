@@ -1,8 +1,8 @@
 //! 01's bench pieces about the machine, through both calls.
 
+use peer::answer::unpack;
 use peer::bytes::{bytes_of, words_of};
-use peer::cases::K1;
-use peer::run_call::number_and_count;
+use peer::cases::run::K1;
 use peer::word::{build, ADD_IMMEDIATE, HALT, SLT, SLT_IMMEDIATE};
 use peer::{proved, run_call};
 
@@ -17,7 +17,7 @@ fn run(code: &[u32], regs: &[u32; 16], budget: u32) -> (u8, u32, Vec<u32>) {
         (answer, words_of(&regs))
     });
     assert_eq!(by_peer, by_proved);
-    let (number, count) = number_and_count(by_peer.0);
+    let (number, _, count) = unpack(by_peer.0);
     (number, count, by_peer.1)
 }
 

@@ -1,6 +1,6 @@
 -- 01, "The packet" and "Refusal numbers": how a whole packet is read. 6 first; then number by number, left to right, each number's faults in the order 1, 2, 3 or 4; 5 last.
 use Prim.Native.Nat.{ℕ, zero, suc, _+_}
-use mathlib.Core.List.{List}
+use mathlib.Core.List.{List, [], _∷_}
 use lib.ListN.{length, set}
 use lib.Dec.{ltb}
 use Rattle.choice.specs.Pick.{pick}
@@ -63,3 +63,31 @@ packetOf bytes numbers =
     pick (ltb BYTES (length bytes)) (readingOf (Fault TOO-LONG 0) numbers)
     (pick (ltb (length numbers) (length bytes)) (readingOf NoRoom numbers)
     (packetFrom (length bytes + 1) bytes (Next Edition) 0 numbers 0))
+
+-- the same without a buffer: the numbers of a packet from a place on, in order, and what it is, with so many numbers before
+unfoldable pub numbersThen : Got → (Due → ℕ → List ℕ) → List ℕ
+numbersThen (Took v behind due) on = v ∷ on due behind
+numbersThen (Bad k place) on = []
+
+unfoldable pub numbersFrom : ℕ → List ℕ → Due → ℕ → List ℕ
+numbersFrom zero bytes due at = []
+numbersFrom (suc fuel) bytes (Next w) at = numbersThen (gotOf bytes at w) (numbersFrom fuel bytes)
+numbersFrom (suc fuel) bytes End at = []
+numbersFrom (suc fuel) bytes (Refused k) at = []
+
+unfoldable pub takenThen : Got → ℕ → (Due → ℕ → ℕ → Taken) → Taken
+takenThen (Took v behind due) count on = on due behind (count + 1)
+takenThen (Bad k place) count on = Fault k place
+
+unfoldable pub takenFrom : ℕ → List ℕ → Due → ℕ → ℕ → Taken
+takenFrom zero bytes due at count = Fault ENDED (length bytes)
+takenFrom (suc fuel) bytes (Next w) at count = takenThen (gotOf bytes at w) count (takenFrom fuel bytes)
+takenFrom (suc fuel) bytes End at count = endOf (length bytes) at count
+takenFrom (suc fuel) bytes (Refused k) at count = Fault k at
+
+-- the numbers of a packet, and what it is, given room
+unfoldable pub numbersOf : List ℕ → List ℕ
+numbersOf bytes = numbersFrom (length bytes + 1) bytes (Next Edition) 0
+
+unfoldable pub takenOf : List ℕ → Taken
+takenOf bytes = pick (ltb BYTES (length bytes)) (Fault TOO-LONG 0) (takenFrom (length bytes + 1) bytes (Next Edition) 0 0)

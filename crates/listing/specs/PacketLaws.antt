@@ -1,14 +1,15 @@
 -- Laws for the reader's code: one for each way through it. `gets` holds those for one number, `packets` those for the loop and the call.
 use Prim.Native.Nat.{ℕ, zero, suc, _+_, _-_, _<_, _≤_}
 use native.Mathlib.Omega.{arith}
-use mathlib.Core.Path.{_≡_, refl, sym, ap, _∙_}
+use mathlib.Core.Path.{_≡_, refl, sym, ap, subst, _∙_}
 use mathlib.Core.List.{List}
+use lib.Dec.{ltb}
 use lib.ListN.{length, set}
-use Rattle.choice.specs.Pick.{is-less, not-less}
+use Rattle.choice.specs.Pick.{is-less, not-less, both}
 use Rattle.number.specs.declared.Found.{Found}
 use Rattle.number.specs.declared.Found.the-variants.{Number, Ended, Malformed}
 use Rattle.number.specs.Number.{readOf}
-use Rattle.number.specs.NumberLaws.{number-placed}
+use Rattle.number.specs.NumberLaws.{Placed, read-placed}
 use Rattle.listing.specs.declared.grammar.Wanted.{Wanted}
 use Rattle.listing.specs.declared.grammar.Wanted.the-variants.{Edition}
 use Rattle.listing.specs.declared.grammar.Due.{Due}
@@ -56,25 +57,30 @@ module _ (bytes : List ℕ) (at : ℕ) (w : Wanted) (f : Found) (r : Got) (e : f
 
 pub ruleset gets = (refl, then-next, then-end, then-refused, found-number, found-ended, found-malformed)
 
--- a number that was got: the place behind it is further on, and within the packet
-took-behind : (due : Due) (v at behind v′ behind′ : ℕ) (d : Due) → dueThen due v at behind ≡ Took v′ behind′ d → behind ≡ behind′
-unfolding dueThen
-took-behind (Next w) v at behind v′ behind′ d e = cc
-took-behind End v at behind v′ behind′ d e = cc
-took-behind (Refused k) v at behind v′ behind′ d e = let z : _≡_ {A = ℕ} 0 1 = cc in absurd (omega arith)
+-- a number that was got: the place behind it is further on, and within the packet; a fault's place is within it
+unfoldable pub Behind : ℕ → ℕ → Got → Type 0
+Behind at end (Took v behind d) = (at < behind) × (behind ≤ end)
+Behind at end (Bad k place) = place ≤ end
 
-found-behind : (bytes : List ℕ) (at : ℕ) (w : Wanted) (f : Found) (v behind : ℕ) (d : Due) → f ≡ readOf bytes at → foundThen f (length bytes) at w ≡ Took v behind d
-    → (at < behind) × (behind ≤ length bytes)
-unfolding foundThen
-found-behind bytes at w (Number x next) v behind d e p =
-    let same : next ≡ behind = took-behind (nextOf w x) x at next v behind d p in
-    rw same at (number-placed bytes at x next (Number x next) e refl)
-found-behind bytes at w Ended v behind d e p = let z : _≡_ {A = ℕ} 0 1 = cc in absurd (omega arith)
-found-behind bytes at w (Malformed place) v behind d e p = let z : _≡_ {A = ℕ} 0 1 = cc in absurd (omega arith)
+due-behind : (due : Due) (v at behind end : ℕ) → at < behind → behind ≤ end → Behind at end (dueThen due v at behind)
+unfolding Behind dueThen
+due-behind (Next w) v at behind end h k = (h, k)
+due-behind End v at behind end h k = (h, k)
+due-behind (Refused n) v at behind end h k = omega arith
 
-pub got-behind : (bytes : List ℕ) (at : ℕ) (w : Wanted) (g : Got) (v behind : ℕ) (d : Due) → g ≡ gotOf bytes at w → g ≡ Took v behind d
+found-behind : (f : Found) (at end : ℕ) (w : Wanted) → at ≤ end → Placed at end f → Behind at end (foundThen f end at w)
+unfolding foundThen Placed Behind
+found-behind (Number v behind) at end w h p = due-behind (nextOf w v) v at behind end (p .0) (p .1)
+found-behind Ended at end w h p = omega arith
+found-behind (Malformed place) at end w h p = p
+
+pub got-placed : (bytes : List ℕ) (at : ℕ) (w : Wanted) → at ≤ length bytes → Behind at (length bytes) (gotOf bytes at w)
+got-placed bytes at w h = found-behind (readOf bytes at) at (length bytes) w h (read-placed bytes at h)
+
+pub got-behind : (bytes : List ℕ) (at : ℕ) (w : Wanted) (g : Got) (v behind : ℕ) (d : Due) → at ≤ length bytes → g ≡ gotOf bytes at w → g ≡ Took v behind d
     → (at < behind) × (behind ≤ length bytes)
-got-behind bytes at w g v behind d e p = found-behind bytes at w (readOf bytes at) v behind d refl (sym e ∙ p)
+unfolding Behind
+got-behind bytes at w g v behind d h e p = subst (Behind at (length bytes)) (sym e ∙ p) (got-placed bytes at w h)
 
 -- the turns of the loop: the whole reading is what is left of it from each turn on
 module _ (whole : Reading) (bytes : List ℕ) (due : Due) (at : ℕ) (numbers : List ℕ) (count : ℕ)

@@ -89,11 +89,11 @@ module _ (whole : Found) (left : ℕ) (bytes : List ℕ) (first at v scale : ℕ
 
 pub ruleset groups = (scale-first, scale-next, scale-fits, scale-times-fits, group-below, goes-on, at-last, at-end, too-long)
 
--- a number's next place lies behind the place that it is read at, and within the packet
+-- a number's next place lies behind the place that it is read at, and within the packet; a malformed number's place lies within it too
 unfoldable pub Placed : ℕ → ℕ → Found → Type 0
 Placed at end (Number v next) = (at < next) × (next ≤ end)
 Placed at end Ended = Unit {0}
-Placed at end (Malformed place) = Unit {0}
+Placed at end (Malformed place) = place ≤ end
 
 placed-later : (at end : ℕ) (r : Found) → Placed (at + 1) end r → Placed at end r
 unfolding Placed
@@ -101,24 +101,23 @@ placed-later at end (Number v next) p = omega arith
 placed-later at end Ended p = p
 placed-later at end (Malformed place) p = p
 
-last-placed : (v scale b first at : ℕ) (bytes : List ℕ) → at < length bytes → Placed at (length bytes) (lastOf v scale b first at)
+last-placed : (v scale b first at : ℕ) (bytes : List ℕ) → first ≤ length bytes → at < length bytes → Placed at (length bytes) (lastOf v scale b first at)
 unfolding Placed lastOf
-last-placed v scale b first at bytes h =
+last-placed v scale b first at bytes f h =
     both (Placed at (length bytes)) (eqb b 0) _ _
-    (both (Placed at (length bytes)) (eqb at first) _ _ (omega arith) tt)
-    (both (Placed at (length bytes)) (ltb (v + b * scale) (2 ^ 32)) _ _ (omega arith) tt)
+    (both (Placed at (length bytes)) (eqb at first) _ _ (omega arith) f)
+    (both (Placed at (length bytes)) (ltb (v + b * scale) (2 ^ 32)) _ _ (omega arith) f)
 
-groups-placed : (left : ℕ) (bytes : List ℕ) (first at v scale : ℕ) → Placed at (length bytes) (groupsOf left bytes first at v scale)
+groups-placed : (left : ℕ) (bytes : List ℕ) (first at v scale : ℕ) → first ≤ length bytes → Placed at (length bytes) (groupsOf left bytes first at v scale)
 unfolding Placed groupsOf
-groups-placed zero bytes first at v scale = tt
-groups-placed (suc left) bytes first at v scale =
+groups-placed zero bytes first at v scale f = f
+groups-placed (suc left) bytes first at v scale f =
     each-way (Placed at (length bytes)) (ltb at (length bytes)) _ _
     (λ h.
     both (Placed at (length bytes)) (ltb (getD bytes at 0) CONTINUES) _ _
-    (last-placed v scale (getD bytes at 0) first at bytes (ltb-true at (length bytes) h))
-    (placed-later at (length bytes) (groupsOf left bytes first (at + 1) (v + getD bytes at 0 % 128 * scale) (scale * 128)) (groups-placed left bytes first (at + 1) (v + getD bytes at 0 % 128 * scale) (scale * 128))))
+    (last-placed v scale (getD bytes at 0) first at bytes f (ltb-true at (length bytes) h))
+    (placed-later at (length bytes) (groupsOf left bytes first (at + 1) (v + getD bytes at 0 % 128 * scale) (scale * 128)) (groups-placed left bytes first (at + 1) (v + getD bytes at 0 % 128 * scale) (scale * 128) f)))
     (λ h. tt)
 
-pub number-placed : (bytes : List ℕ) (at v next : ℕ) (r : Found) → r ≡ readOf bytes at → r ≡ Number v next → (at < next) × (next ≤ length bytes)
-unfolding Placed
-number-placed bytes at v next r e p = subst (Placed at (length bytes)) (sym e ∙ p) (groups-placed GROUPS bytes at at 0 1)
+pub read-placed : (bytes : List ℕ) (at : ℕ) → at ≤ length bytes → Placed at (length bytes) (readOf bytes at)
+read-placed bytes at f = groups-placed GROUPS bytes at at 0 1 f

@@ -1,14 +1,13 @@
 //! `vans_run` against the second program: the same answer and the same bytes on
 //! many cases. PEER_SEED chooses another set; a case is named by seed and number.
 
-mod lent;
 mod tally;
 
-use lent::Lent;
+use peer::answer::unpack;
 use peer::bytes::words_of;
-use peer::cases::Case;
-use peer::run_call::number_and_count;
-use peer::{proved, run_call};
+use peer::cases::run::Case;
+use peer::lent::Lent;
+use peer::{proved, random, run_call};
 use tally::Tally;
 
 const CASES: u64 = 400_000;
@@ -23,8 +22,7 @@ struct Outcome {
 
 #[test]
 fn proved_and_peer_agree() {
-    let seed =
-        std::env::var("PEER_SEED").map_or(1, |seed| seed.parse().expect("PEER_SEED is a number"));
+    let seed = random::seed();
     let mut tally = Tally::default();
     for number in 0..CASES {
         let case = Case::new(seed, number);
@@ -65,10 +63,9 @@ fn report(case: &Case, expected: &Outcome, found: &Result<Outcome, &'static str>
     let difference = match found {
         Err(fault) => fault.to_string(),
         Ok(found) => format!(
-            "peer {:?}, vans_run {:?} (number, count; {:#x}); first different heap byte {:?}\n peer regs {:08x?}\n vans regs {:08x?}",
-            number_and_count(expected.answer),
-            number_and_count(found.answer),
-            found.answer,
+            "peer {:?}, vans_run {:?} (number, place, count); first different heap byte {:?}\n peer regs {:08x?}\n vans regs {:08x?}",
+            unpack(expected.answer),
+            unpack(found.answer),
             expected.heap.iter().zip(&found.heap).position(|(a, b)| a != b),
             words_of(&expected.regs),
             words_of(&found.regs),

@@ -1,9 +1,10 @@
 //! What the cases reached, so that the comparison cannot become empty unseen.
 
+use peer::answer::unpack;
 use peer::bytes::{registers_of, words_of};
-use peer::cases::Case;
+use peer::cases::run::Case;
 use peer::machine::{Machine, Status};
-use peer::run_call::{number_and_count, refusals};
+use peer::run_call::refusals;
 use peer::word::{opcode, LOAD, STORE};
 use std::collections::BTreeMap;
 use std::fmt;
@@ -24,7 +25,7 @@ pub struct Tally {
 
 impl Tally {
     pub fn add(&mut self, case: &Case, answer: u64) {
-        let (number, count) = number_and_count(answer);
+        let (number, _, count) = unpack(answer);
         *self.answers.entry(number).or_default() += 1;
         self.long_runs += u64::from(count >= LONG_RUN);
         match refusals(case.code.len(), case.heap.len(), case.regs.len(), case.budget).count() {

@@ -22,7 +22,7 @@ abbrev μ-loop : tie.MeasureT-loop
 -- behind the number that was got lies a place further on, within the packet
 further : (c : tie.After-known-told2 Inv-loop μ-loop)
     → (c .before .before .before .before .before .before .before .loop .at < c .before .v .given .0 .1 .0) × (c .before .v .given .0 .1 .0 ≤ length (c .before .before .before .before .before .before .before .before .before .before .args .packet .now))
-further c = got-behind _ _ _ _ _ _ _ (c .before .before .before .get .ensures) (c .before .v .given .1)
+further c = got-behind _ _ _ _ _ _ _ (omega arith) (c .before .before .before .get .ensures) (c .before .v .given .1)
 
 loop-again : tie.Need-loop-again Inv-loop μ-loop
 loop-again c = (search (packets, needs), omega (arith, further c), omega (arith, further c), simp length-set (omega arith))

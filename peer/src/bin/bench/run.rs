@@ -1,15 +1,13 @@
-//! Times `vans_run` and the peer's `run` side by side: the best of several
-//! alternating rounds of each, and their ratio.
+//! The bare machine: a step of a long run, and a call of few steps.
 
+use crate::{row, timed};
+use peer::answer::unpack;
 use peer::bytes::bytes_of;
-use peer::cases::K1;
-use peer::run_call::{number_and_count, BUDGET, HEAP_WORDS};
+use peer::cases::run::K1;
+use peer::run_call::{BUDGET, HEAP_WORDS};
 use peer::word::*;
 use peer::{proved, run_call};
 use std::hint::black_box;
-use std::time::Instant;
-
-const ROUNDS: u32 = 30;
 
 type Call = fn(&[u8], &mut [u8], &mut [u8], u32) -> u64;
 
@@ -25,40 +23,29 @@ struct Work {
     per_step: bool,
 }
 
-fn main() {
-    println!("{:<40}{:>12}{:>12}{:>8}", "best, in nanoseconds", "vans_run", "peer", "ratio");
+pub fn rows() {
     let works = [
         steps(),
         k1("a call of 5 steps, heap of 16 words", 16, 10_000),
         k1("a call of 5 steps, heap of 16,384 words", HEAP_WORDS, 100),
     ];
     for work in works {
-        let (proved, peer) = measure(&work);
-        println!("{:<40}{proved:>12.2}{peer:>12.2}{:>8.2}", work.name, proved / peer);
+        row(work.name, || round(&work, proved::vans_run), || round(&work, run_call::run));
     }
-}
-
-fn measure(work: &Work) -> (f64, f64) {
-    let (mut proved, mut peer) = (f64::INFINITY, f64::INFINITY);
-    for _ in 0..ROUNDS {
-        proved = proved.min(round(work, proved::vans_run));
-        peer = peer.min(round(work, run_call::run));
-    }
-    (proved, peer)
 }
 
 /// Nanoseconds for one figure's worth, over the calls of a round.
 fn round(work: &Work, call: Call) -> f64 {
     let (mut heap, mut regs) = (work.heap.clone(), work.start.clone());
-    let begin = Instant::now();
-    for _ in 0..work.calls_in_a_round {
-        regs.copy_from_slice(&work.start);
-        let answer =
-            call(black_box(&work.code), black_box(&mut heap), black_box(&mut regs), BUDGET);
-        assert_eq!(number_and_count(answer), (0, work.steps));
-    }
     let parts = work.calls_in_a_round * if work.per_step { work.steps } else { 1 };
-    begin.elapsed().as_nanos() as f64 / f64::from(parts)
+    timed(parts, || {
+        for _ in 0..work.calls_in_a_round {
+            regs.copy_from_slice(&work.start);
+            let answer =
+                call(black_box(&work.code), black_box(&mut heap), black_box(&mut regs), BUDGET);
+            assert_eq!(unpack(answer), (0, 0, work.steps));
+        }
+    })
 }
 
 /// Arithmetic, load, store and bnz over sixteen words, close to the whole budget.

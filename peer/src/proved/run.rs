@@ -1,6 +1,4 @@
-//! The proved library's call. This is the only file with `unsafe`.
-
-#![allow(unsafe_code)]
+//! The bare machine.
 
 extern "C" {
     #[link_name = "vans_run"]
@@ -16,9 +14,7 @@ extern "C" {
 }
 
 pub fn vans_run(code: &[u8], heap: &mut [u8], regs: &mut [u8], budget: u32) -> u64 {
-    // SAFETY: each pointer and length come from one live slice; they are not null
-    // even at length 0, and the two written slices overlap nothing. The library
-    // keeps no pointer after it returns.
+    // SAFETY: the slices are lent as the head of this folder says.
     unsafe {
         vans_run_over_c(
             code.as_ptr(),
