@@ -4,4 +4,6 @@ pub mod ByteLaws  -- bytes to words and back, both ways
 pub mod Answer  -- the one number that a call answers
 pub mod RunCall  -- vans_run: the bare machine on byte buffers
 pub mod RunCallLaws  -- for the proofs of the code of vans_run
+pub mod ReadCall  -- vans_read: the packet reader on byte buffers
+pub mod ReadCallLaws  -- for the proofs of the code of vans_read
 pub mod Unique  -- any two results that meet the promise are equal

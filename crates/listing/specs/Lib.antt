@@ -4,4 +4,4 @@ pub mod Grammar  -- which number is due, and what is due after it
 pub mod GrammarLaws  -- the grammar by what is due
 pub mod Packet  -- how a whole packet is read, with the places of refusals 1 to 6
 pub mod PacketLaws  -- one law for each way through the code of the reader
-pub mod TakenLaws   -- what the reader leaves in a buffer, by the packet alone
+pub mod TakenLaws  -- what the reader leaves in a buffer, by the packet alone

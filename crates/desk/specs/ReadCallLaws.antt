@@ -1,0 +1,83 @@
+-- Laws of vans_read for the proofs of its code: one for each way through it. `hands` and `reads` hold them for a search.
+use Prim.Native.Nat.{ℕ, _*_, _/_, _^_, _<_, _≤_}
+use native.Mathlib.Omega.{arith}
+use mathlib.Core.Path.{_≡_, refl, sym, ap, _∙_}
+use mathlib.Core.List.{List, _++_}
+use mir.Syntax.{w32}
+use mir.Val.{Fits}
+use lib.ListN.{length, take, drop}
+use lib.Seq.{length-take-le}
+use Rattle.choice.specs.Pick.{is-less, not-less}
+use Rattle.listing.specs.declared.reading.Taken.{Taken}
+use Rattle.listing.specs.declared.reading.Taken.the-variants.{Listing, Fault, NoRoom}
+use Rattle.listing.specs.Limits.{BYTES, TOO-LONG}
+use Rattle.listing.specs.Packet.{readingOf, packetOf, numbersOf, takenOf}
+use Rattle.listing.specs.TakenLaws.{read-taken, read-count, read-place, read-numbers}
+use Rattle.desk.specs.Bytes.{bytesOf}
+use Rattle.desk.specs.Answer.{answerOf}
+use Rattle.desk.specs.ReadCall.{DOES-NOT-FIT, ReadCall, readCall, handedOf, byTaken, vansReadOf}
+
+-- the front of a list has as many elements as were asked for
+pub front-is : (n : ℕ) (l : List ℕ) → n ≤ length l → n ≡ length (take n l)
+front-is n l h = sym (length-take-le n l h)
+
+pub bytes-front-is : (n : ℕ) (numbers : List ℕ) → n ≤ length numbers / 4 → n * 4 ≡ length (take (n * 4) numbers)
+bytes-front-is n numbers h = front-is (n * 4) numbers (omega arith)
+
+pub fronts-match : (n : ℕ) (room numbers : List ℕ) → n ≤ length room → n ≤ length numbers / 4 → length (take (n * 4) numbers) ≡ length (take n room) * 4
+fronts-match n room numbers h k = sym (bytes-front-is n numbers k) ∙ ap (λ (x : ℕ). x * 4) (front-is n room h)
+
+module _ (ns : List ℕ) (n : ℕ) (numbers : List ℕ) (a : ℕ) where
+  pub hands-not : length numbers / 4 < n → a ≡ answerOf DOES-NOT-FIT n 0 → readCall a numbers ≡ handedOf ns n numbers
+  unfolding handedOf
+  hands-not h p = is-less (length numbers / 4) n _ _ _ h (ap (λ (x : ℕ). readCall x numbers) p)
+
+  pub hands-over : (front : List ℕ) → n ≤ length numbers / 4 → front ≡ bytesOf ns → a ≡ answerOf 0 0 n → readCall a (front ++ drop (n * 4) numbers) ≡ handedOf ns n numbers
+  unfolding handedOf
+  hands-over front h q p = not-less (length numbers / 4) n _ _ _ h (rw (p, q))
+
+pub ruleset hands = (front-is, bytes-front-is, fronts-match, hands-not, hands-over)
+
+-- a count fits the room and a place the answer
+module _ (packet room room′ : List ℕ) (t : Taken) (e : readingOf t room′ ≡ packetOf packet room) (h : length packet ≤ BYTES) (k : length packet ≤ length room) where
+  pub count-in-room : (n : ℕ) → t ≡ Listing n → length room′ ≡ length room → n ≤ length room′
+  count-in-room n p s = omega (arith, read-count packet room room′ t e h k n p)
+
+  pub count-in-packet : (n : ℕ) → t ≡ Listing n → n ≤ BYTES
+  count-in-packet n p = omega (arith, read-count packet room room′ t e h k n p)
+
+  pub place-small : (number place : ℕ) → t ≡ Fault number place → place < 2 ^ 24
+  place-small number place p = omega (arith, read-place packet room room′ t e h k number place p)
+
+  pub place-fits : (number place : ℕ) → t ≡ Fault number place → Fits w32 place
+  place-fits number place p = record { fits = omega (arith, place-small number place p) }
+
+-- by what the packet is
+module _ (packet numbers : List ℕ) (c : ReadCall) where
+  as-taken : (t : Taken) → takenOf packet ≡ t → c ≡ byTaken t (numbersOf packet) numbers → c ≡ vansReadOf packet numbers
+  unfolding vansReadOf
+  as-taken t e p = p ∙ ap (λ (x : Taken). byTaken x (numbersOf packet) numbers) (sym e)
+
+  module _ (room room′ : List ℕ) (t : Taken) (e : readingOf t room′ ≡ packetOf packet room) (h : length packet ≤ BYTES) (k : length packet ≤ length room) where
+    pub reads-listing : (n : ℕ) → t ≡ Listing n → c ≡ handedOf (take n room′) n numbers → c ≡ vansReadOf packet numbers
+    unfolding byTaken
+    reads-listing n p q =
+        as-taken (Listing n) (sym (read-taken packet room room′ t e h k) ∙ p)
+        (q ∙ ap (λ (ns : List ℕ). handedOf ns n numbers) (read-numbers packet room room′ t e h k n p))
+
+    pub reads-fault : (a number place : ℕ) → t ≡ Fault number place → a ≡ answerOf number place 0 → c ≡ readCall a numbers → c ≡ vansReadOf packet numbers
+    unfolding byTaken
+    reads-fault a number place p q s =
+        as-taken (Fault number place) (sym (read-taken packet room room′ t e h k) ∙ p) (s ∙ ap (λ (x : ℕ). readCall x numbers) q)
+
+    pub reads-no-room : (a : ℕ) → t ≡ NoRoom → a ≡ answerOf 0 0 0 → c ≡ readCall a numbers → c ≡ vansReadOf packet numbers
+    unfolding byTaken
+    reads-no-room a p q s =
+        as-taken NoRoom (sym (read-taken packet room room′ t e h k) ∙ p) (s ∙ ap (λ (x : ℕ). readCall x numbers) q)
+
+  pub reads-too-long : (a : ℕ) → BYTES < length packet → a ≡ answerOf TOO-LONG 0 0 → c ≡ readCall a numbers → c ≡ vansReadOf packet numbers
+  unfolding takenOf byTaken
+  reads-too-long a h q s =
+      as-taken (Fault TOO-LONG 0) (sym (is-less BYTES (length packet) _ _ _ h refl)) (s ∙ ap (λ (x : ℕ). readCall x numbers) q)
+
+pub ruleset reads = (refl, count-in-room, count-in-packet, place-small, place-fits, reads-listing, reads-fault, reads-no-room, reads-too-long)
