@@ -5,6 +5,8 @@
 
 #![allow(unsafe_code)]
 
+mod read;
 mod run;
 
+pub use read::vans_read;
 pub use run::vans_run;

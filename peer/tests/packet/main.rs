@@ -2,6 +2,7 @@
 //! limits, the edges of its numbers, and listings that were made up.
 
 mod buffers;
+mod comparison;
 mod limits;
 mod numbers;
 mod pieces;
@@ -11,12 +12,12 @@ use peer::answer::unpack;
 use peer::bytes::words_of;
 use peer::packet::grammar::MOST_NUMBERS;
 use peer::packet::Refusal;
-use peer::read_call;
+use peer::{proved, read_call};
 
 type Call = fn(&[u8], &mut [u8]) -> u64;
 
 /// The calls that must all give the same.
-const CALLS: [Call; 1] = [read_call::read];
+const CALLS: [Call; 2] = [read_call::read, proved::vans_read];
 
 /// A packet's numbers or its refusal.
 type Outcome = Result<Vec<u32>, Refusal>;

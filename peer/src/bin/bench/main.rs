@@ -1,6 +1,7 @@
 //! Times the proved calls and the peer's side by side: the best of several
 //! alternating rounds of each, and their ratio.
 
+mod read;
 mod run;
 
 use std::time::Instant;
@@ -10,6 +11,7 @@ const ROUNDS: u32 = 30;
 fn main() {
     println!("{:<48}{:>10}{:>10}{:>8}", "best, in nanoseconds", "proved", "peer", "ratio");
     run::rows();
+    read::rows();
 }
 
 /// Measures and prints a row of the table.
