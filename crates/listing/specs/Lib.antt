@@ -5,3 +5,6 @@ pub mod GrammarLaws  -- the grammar by what is due
 pub mod Packet  -- how a whole packet is read, with the places of refusals 1 to 6
 pub mod PacketLaws  -- one law for each way through the code of the reader
 pub mod TakenLaws  -- what the reader leaves in a buffer, by the packet alone
+pub mod Fold  -- what is due after a row of numbers
+pub mod Bytes  -- the bytes of a row of numbers
+pub mod ByteLaws  -- a packet is taken exactly where it is the bytes of numbers that the grammar takes
