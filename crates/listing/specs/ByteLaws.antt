@@ -30,13 +30,13 @@ use Rattle.listing.specs.Fold.{foldOf}
 use Rattle.listing.specs.Packet.{dueThen, foundThen, gotOf, endOf, numbersThen, numbersFrom, takenThen, takenFrom, numbersOf, takenOf}
 use Rattle.listing.specs.Bytes.{bytesOf}
 
-never : {A : Type 0} → _≡_ {A = ℕ} 0 1 → A
+pub never : {A : Type 0} → _≡_ {A = ℕ} 0 1 → A
 never z = absurd (omega arith)
 
 -- what a number that was got is: found there, and taken by the grammar
-record GotNumber (bytes : List ℕ) (at : ℕ) (w : Wanted) (v behind : ℕ) (d : Due) : Type 0 where
-  found : readOf bytes at ≡ Number v behind
-  due : nextOf w v ≡ d
+pub record GotNumber (bytes : List ℕ) (at : ℕ) (w : Wanted) (v behind : ℕ) (d : Due) : Type 0 where
+  pub found : readOf bytes at ≡ Number v behind
+  pub due : nextOf w v ≡ d
 
 got-due : (bytes : List ℕ) (at : ℕ) (w : Wanted) (x next v behind : ℕ) (d e : Due) → readOf bytes at ≡ Number x next → nextOf w x ≡ e → dueThen e x at next ≡ Took v behind d
     → GotNumber bytes at w v behind d
@@ -45,7 +45,7 @@ got-due bytes at w x next v behind d (Next u) f g p = record { found = cc; due =
 got-due bytes at w x next v behind d End f g p = record { found = cc; due = cc }
 got-due bytes at w x next v behind d (Refused k) f g p = never cc
 
-got-found : (bytes : List ℕ) (at : ℕ) (w : Wanted) (f : Found) (v behind : ℕ) (d : Due) → readOf bytes at ≡ f → foundThen f (length bytes) at w ≡ Took v behind d
+pub got-found : (bytes : List ℕ) (at : ℕ) (w : Wanted) (f : Found) (v behind : ℕ) (d : Due) → readOf bytes at ≡ f → foundThen f (length bytes) at w ≡ Took v behind d
     → GotNumber bytes at w v behind d
 unfolding foundThen
 got-found bytes at w (Number x next) v behind d e p = got-due bytes at w x next v behind d (nextOf w x) e refl p

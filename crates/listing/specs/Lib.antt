@@ -8,3 +8,4 @@ pub mod TakenLaws  -- what the reader leaves in a buffer, by the packet alone
 pub mod Fold  -- what is due after a row of numbers
 pub mod Bytes  -- the bytes of a row of numbers
 pub mod ByteLaws  -- a packet is taken exactly where it is the bytes of numbers that the grammar takes
+pub mod FaultLaws  -- a refusal names the first fault
