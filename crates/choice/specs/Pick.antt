@@ -4,8 +4,8 @@ use Prim.Native.Nat.{ℕ, _<_, _≤_}
 use mathlib.Core.Path.{_≡_, refl, sym, ap, _∙_}
 use mathlib.Core.Bool.{Bool, true, false}
 use mathlib.Core.Logic.{_⊎_, inl, inr}
-use lib.Dec.{ltb, leb, eqb}
-use borrow.Author.Tests.{lt-ltb, le-ltb, le-leb, lt-leb, eq-eqb, ne-eqb}
+use lib.Dec.{ltb, eqb}
+use borrow.Author.Tests.{lt-ltb, le-ltb, eq-eqb, ne-eqb, ltb-true, ltb-false, eqb-true, eqb-false}
 
 -- x where the test holds, y where it does not
 unfoldable pub pick : {A : Type 0} → Bool → A → A → A
@@ -50,6 +50,12 @@ module _ {A : Type 0} where
   unfolding pick
   each-way P true x y p q = p refl
   each-way P false x y p q = q refl
+
+  pub if-equal : (P : A → Type 0) (a b : ℕ) (x y : A) → (a ≡ b → P x) → ((a ≡ b → ⊥) → P y) → P (pick (eqb a b) x y)
+  if-equal P a b x y p q = each-way P (eqb a b) x y (λ e. p (eqb-true a b e)) (λ e. q (eqb-false a b e))
+
+  pub if-less : (P : A → Type 0) (a b : ℕ) (x y : A) → (a < b → P x) → (b ≤ a → P y) → P (pick (ltb a b) x y)
+  if-less P a b x y p q = each-way P (ltb a b) x y (λ e. p (ltb-true a b e)) (λ e. q (ltb-false a b e))
 
   pub through : {B : Type 0} (f : A → B) (t : Bool) (x y : A) → f (pick t x y) ≡ pick t (f x) (f y)
   unfolding pick

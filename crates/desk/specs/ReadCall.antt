@@ -6,7 +6,7 @@ use lib.Dec.{ltb}
 use Rattle.choice.specs.Pick.{pick}
 use Rattle.listing.specs.declared.reading.Taken.{Taken}
 use Rattle.listing.specs.declared.reading.Taken.the-variants.{Listing, Fault, NoRoom}
-use Rattle.listing.specs.Packet.{numbersOf, takenOf}
+use Rattle.listing.specs.Packet.{numbersIn, takenOf}
 use Rattle.desk.specs.Bytes.{bytesOf}
 use Rattle.desk.specs.Answer.{answerOf}
 
@@ -36,4 +36,4 @@ byTaken NoRoom ns numbers = readCall (answerOf 0 0 0) numbers
 
 -- the call
 unfoldable pub vansReadOf : List ℕ → List ℕ → ReadCall
-vansReadOf packet numbers = byTaken (takenOf packet) (numbersOf packet) numbers
+vansReadOf packet numbers = byTaken (takenOf packet) (numbersIn packet) numbers

@@ -11,7 +11,7 @@ use Rattle.choice.specs.Pick.{is-less, not-less}
 use Rattle.listing.specs.declared.reading.Taken.{Taken}
 use Rattle.listing.specs.declared.reading.Taken.the-variants.{Listing, Fault, NoRoom}
 use Rattle.listing.specs.Limits.{BYTES, TOO-LONG}
-use Rattle.listing.specs.Packet.{readingOf, packetOf, numbersOf, takenOf}
+use Rattle.listing.specs.Packet.{readingOf, packetOf, numbersIn, takenOf}
 use Rattle.listing.specs.TakenLaws.{read-taken, read-count, read-place, read-numbers}
 use Rattle.desk.specs.Bytes.{bytesOf}
 use Rattle.desk.specs.Answer.{answerOf}
@@ -54,9 +54,9 @@ module _ (packet room room′ : List ℕ) (t : Taken) (e : readingOf t room′ �
 
 -- by what the packet is
 module _ (packet numbers : List ℕ) (c : ReadCall) where
-  as-taken : (t : Taken) → takenOf packet ≡ t → c ≡ byTaken t (numbersOf packet) numbers → c ≡ vansReadOf packet numbers
+  as-taken : (t : Taken) → takenOf packet ≡ t → c ≡ byTaken t (numbersIn packet) numbers → c ≡ vansReadOf packet numbers
   unfolding vansReadOf
-  as-taken t e p = p ∙ ap (λ (x : Taken). byTaken x (numbersOf packet) numbers) (sym e)
+  as-taken t e p = p ∙ ap (λ (x : Taken). byTaken x (numbersIn packet) numbers) (sym e)
 
   module _ (room room′ : List ℕ) (t : Taken) (e : readingOf t room′ ≡ packetOf packet room) (h : length packet ≤ BYTES) (k : length packet ≤ length room) where
     pub reads-listing : (n : ℕ) → t ≡ Listing n → c ≡ handedOf (take n room′) n numbers → c ≡ vansReadOf packet numbers

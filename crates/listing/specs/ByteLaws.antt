@@ -27,7 +27,8 @@ use Rattle.listing.specs.declared.reading.Taken.the-variants.{Listing, F
 use Rattle.listing.specs.Limits.{BYTES, ENDED, MALFORMED, LEFT-OVER, TOO-LONG}
 use Rattle.listing.specs.Grammar.{nextOf}
 use Rattle.listing.specs.Fold.{foldOf}
-use Rattle.listing.specs.Packet.{dueThen, foundThen, gotOf, endOf, numbersThen, numbersFrom, takenThen, takenFrom, numbersOf, takenOf}
+use Rattle.listing.specs.Sorts.{refused-never-ends}
+use Rattle.listing.specs.Packet.{dueThen, foundThen, gotOf, endOf, numbersThen, numbersFrom, takenThen, takenFrom, numbersIn, takenOf}
 use Rattle.listing.specs.Bytes.{bytesOf}
 
 pub never : {A : Type 0} → _≡_ {A = ℕ} 0 1 → A
@@ -87,8 +88,8 @@ module _ (bytes : List ℕ) (below : (i : ℕ) → getD bytes i 0 < 256) where
   stands (suc fuel) (Refused k) at count n e = never cc
 
   -- a packet that is taken is the bytes of its numbers, and the grammar takes these to its end
-  pub taken-bytes : (n : ℕ) → takenOf bytes ≡ Listing n → (bytes ≡ bytesOf (numbersOf bytes)) × (foldOf (Next Edition) (numbersOf bytes) ≡ End)
-  unfolding takenOf numbersOf
+  pub taken-bytes : (n : ℕ) → takenOf bytes ≡ Listing n → (bytes ≡ bytesOf (numbersIn bytes)) × (foldOf (Next Edition) (numbersIn bytes) ≡ End)
+  unfolding takenOf numbersIn
   taken-bytes n e =
       ⊎-elim (λ p. never (let z : _≡_ {A = ℕ} 0 1 = cc (p .1) in z))
       (λ p. let s : Stands bytes (Next Edition) 0 (numbersFrom (length bytes + 1) bytes (Next Edition) 0) = stands (length bytes + 1) (Next Edition) 0 0 n (p .1) in (s .stand, s .ends))
@@ -98,11 +99,6 @@ module _ (bytes : List ℕ) (below : (i : ℕ) → getD bytes i 0 < 256) where
 unfoldable pub EachBelow : ℕ → List ℕ → Type 0
 EachBelow k [] = Unit {0}
 EachBelow k (n ∷ ns) = (n < k) × EachBelow k ns
-
-refused-stays : (k : ℕ) (ns : List ℕ) → foldOf (Refused k) ns ≡ Refused k
-unfolding foldOf
-refused-stays k [] = refl
-refused-stays k (n ∷ ns) = refl
 
 -- the reader's answer is a listing of these numbers
 record Reads (bytes : List ℕ) (fuel : ℕ) (due : Due) (at count : ℕ) (ns : List ℕ) : Type 0 where
@@ -136,7 +132,7 @@ module _ (bytes : List ℕ) where
   unfolding foundThen dueThen
   got-standing at w n behind (Next u) ns e g f = ap (λ (x : Found). foundThen x (length bytes) at w) e ∙ ap (λ (x : Due). dueThen x n at behind) g
   got-standing at w n behind End ns e g f = ap (λ (x : Found). foundThen x (length bytes) at w) e ∙ ap (λ (x : Due). dueThen x n at behind) g
-  got-standing at w n behind (Refused k) ns e g f = never (let z : _≡_ {A = ℕ} 0 1 = cc (refused-stays k ns) in z)
+  got-standing at w n behind (Refused k) ns e g f = absurd (refused-never-ends k ns f)
 
   reads : (ns : List ℕ) (fuel : ℕ) (due : Due) (at count : ℕ) → EachBelow (2 ^ 32) ns → drop at bytes ≡ bytesOf ns → foldOf due ns ≡ End → length ns < fuel → Reads bytes fuel due at count ns
   unfolding foldOf bytesOf EachBelow
@@ -162,8 +158,8 @@ as-many (n ∷ ns) = omega (arith, length-append (encodeOf n) (bytesOf ns), enco
 
 -- numbers that the grammar takes to its end are taken from their bytes, where these are not over the packet limit
 pub bytes-taken : (ns : List ℕ) → EachBelow (2 ^ 32) ns → foldOf (Next Edition) ns ≡ End → length (bytesOf ns) ≤ BYTES
-    → (takenOf (bytesOf ns) ≡ Listing (length ns)) × (numbersOf (bytesOf ns) ≡ ns)
-unfolding takenOf numbersOf
+    → (takenOf (bytesOf ns) ≡ Listing (length ns)) × (numbersIn (bytesOf ns) ≡ ns)
+unfolding takenOf numbersIn
 bytes-taken ns b f h =
     let r : Reads (bytesOf ns) (length (bytesOf ns) + 1) (Next Edition) 0 0 ns = reads (bytesOf ns) ns (length (bytesOf ns) + 1) (Next Edition) 0 0 b refl f (omega (arith, as-many ns)) in
     (sym (not-less BYTES (length (bytesOf ns)) _ _ _ h (sym (r .taken ∙ ap Listing (zero-add (length ns))))), r .numbers)

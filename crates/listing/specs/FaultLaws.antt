@@ -24,7 +24,7 @@ use Rattle.listing.specs.declared.reading.Taken.the-variants.{Listing, F
 use Rattle.listing.specs.Limits.{BYTES, ENDED, LEFT-OVER, TOO-LONG}
 use Rattle.listing.specs.Grammar.{nextOf}
 use Rattle.listing.specs.Fold.{foldOf}
-use Rattle.listing.specs.Packet.{dueThen, foundThen, gotOf, endOf, numbersThen, numbersFrom, takenThen, takenFrom, numbersOf, takenOf}
+use Rattle.listing.specs.Packet.{dueThen, foundThen, gotOf, endOf, numbersThen, numbersFrom, takenThen, takenFrom, numbersIn, takenOf}
 use Rattle.listing.specs.Bytes.{bytesOf}
 use Rattle.listing.specs.PacketLaws.{got-behind}
 use Rattle.listing.specs.ByteLaws.{never, GotNumber, got-found}
@@ -96,8 +96,8 @@ module _ (bytes : List ℕ) (below : (i : ℕ) → getD bytes i 0 < 256) (number
   first-fault (suc fuel) (Refused n) at count live h k e = absurd (live n refl)
 
   -- the fault of a packet that is not too long is the first
-  pub fault-is-first : length bytes ≤ BYTES → takenOf bytes ≡ Fault number place → FirstFault bytes (Next Edition) 0 (numbersOf bytes) number place
-  unfolding takenOf numbersOf
+  pub fault-is-first : length bytes ≤ BYTES → takenOf bytes ≡ Fault number place → FirstFault bytes (Next Edition) 0 (numbersIn bytes) number place
+  unfolding takenOf numbersIn
   fault-is-first h e =
       first-fault (length bytes + 1) (Next Edition) 0 0 (λ k q. never (let z : _≡_ {A = ℕ} 0 1 = cc in z)) zero-le (omega arith)
       (not-less BYTES (length bytes) _ _ _ h refl ∙ e)

@@ -1,11 +1,15 @@
--- What a listing is, and how a packet is read.
+-- What a listing is, and how a packet is read. To believe the reader, read Limits, Grammar and Packet, and for the theorems Listing, Fold, Bytes and Theorems; the rest are laws.
 pub mod Limits  -- limits and refusals, each named once
 pub mod Grammar  -- which number is due, and what is due after it
-pub mod GrammarLaws  -- the grammar by what is due
+pub mod GrammarLaws  -- the grammar by what is due, for the proofs of code
 pub mod Packet  -- how a whole packet is read, with the places of refusals 1 to 6
 pub mod PacketLaws  -- one law for each way through the code of the reader
 pub mod TakenLaws  -- what the reader leaves in a buffer, by the packet alone
+pub mod Listing  -- a listing as data, its numbers and its ranges
 pub mod Fold  -- what is due after a row of numbers
+pub mod Sorts  -- how the grammar reads the values of a sort
+pub mod ItemLaws  -- the reading of an item
+pub mod ListingLaws  -- a listing is a row of numbers that the grammar takes to its end, and the other way round
 pub mod Bytes  -- the bytes of a row of numbers
 pub mod ByteLaws  -- a packet is taken exactly where it is the bytes of numbers that the grammar takes
 pub mod FaultLaws  -- a refusal names the first fault

@@ -86,8 +86,8 @@ takenFrom (suc fuel) bytes End at count = endOf (length bytes) at count
 takenFrom (suc fuel) bytes (Refused k) at count = Fault k at
 
 -- the numbers of a packet, and what it is, given room
-unfoldable pub numbersOf : List ℕ → List ℕ
-numbersOf bytes = numbersFrom (length bytes + 1) bytes (Next Edition) 0
+unfoldable pub numbersIn : List ℕ → List ℕ
+numbersIn bytes = numbersFrom (length bytes + 1) bytes (Next Edition) 0
 
 unfoldable pub takenOf : List ℕ → Taken
 takenOf bytes = pick (ltb BYTES (length bytes)) (Fault TOO-LONG 0) (takenFrom (length bytes + 1) bytes (Next Edition) 0 0)

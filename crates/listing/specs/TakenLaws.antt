@@ -17,7 +17,7 @@ use Rattle.listing.specs.declared.reading.Got.the-variants.{Took, Bad}
 use Rattle.listing.specs.declared.reading.Taken.{Taken}
 use Rattle.listing.specs.declared.reading.Taken.the-variants.{Listing, Fault, NoRoom}
 use Rattle.listing.specs.Limits.{BYTES, LEFT-OVER, TOO-LONG}
-use Rattle.listing.specs.Packet.{Reading, readingOf, gotOf, endOf, storedThen, packetFrom, packetOf, numbersThen, numbersFrom, takenThen, takenFrom, numbersOf, takenOf}
+use Rattle.listing.specs.Packet.{Reading, readingOf, gotOf, endOf, storedThen, packetFrom, packetOf, numbersThen, numbersFrom, takenThen, takenFrom, numbersIn, takenOf}
 use Rattle.listing.specs.PacketLaws.{Behind, got-placed}
 
 -- the buffer, number by number
@@ -74,8 +74,8 @@ taken-within (suc fuel) bytes (Refused n) at count h k = k
 
 -- for a caller: a packet that is read into room enough for it
 module _ (bytes room room′ : List ℕ) (t : Taken) (e : readingOf t room′ ≡ packetOf bytes room) (h : length bytes ≤ BYTES) (k : length bytes ≤ length room) where
-  read-all : readingOf t room′ ≡ readingOf (takenOf bytes) (sets room 0 (numbersOf bytes))
-  unfolding packetOf takenOf numbersOf
+  read-all : readingOf t room′ ≡ readingOf (takenOf bytes) (sets room 0 (numbersIn bytes))
+  unfolding packetOf takenOf numbersIn
   read-all =
       e
       ∙ sym (not-less BYTES (length bytes) _ _ _ h (not-less (length room) (length bytes) _ _ _ k refl))
@@ -85,26 +85,26 @@ module _ (bytes room room′ : List ℕ) (t : Taken) (e : readingOf t room′ �
   pub read-taken : t ≡ takenOf bytes
   read-taken = ap (λ (r : Reading). r .taken) read-all
 
-  all-within : Within (length bytes) 0 (numbersOf bytes) (takenOf bytes)
-  unfolding takenOf numbersOf
+  all-within : Within (length bytes) 0 (numbersIn bytes) (takenOf bytes)
+  unfolding takenOf numbersIn
   all-within =
       subst (Within (length bytes) 0 (numbersFrom (length bytes + 1) bytes (Next Edition) 0)) (not-less BYTES (length bytes) _ _ _ h refl)
       (taken-within (length bytes + 1) bytes (Next Edition) 0 0 zero-le zero-le)
 
   pub read-count : (n : ℕ) → t ≡ Listing n → n ≤ length bytes
   unfolding Within
-  read-count n p = subst (Within (length bytes) 0 (numbersOf bytes)) (sym read-taken ∙ p) all-within .0
+  read-count n p = subst (Within (length bytes) 0 (numbersIn bytes)) (sym read-taken ∙ p) all-within .0
 
   pub read-place : (number place : ℕ) → t ≡ Fault number place → place ≤ length bytes
   unfolding Within
-  read-place number place p = subst (Within (length bytes) 0 (numbersOf bytes)) (sym read-taken ∙ p) all-within
+  read-place number place p = subst (Within (length bytes) 0 (numbersIn bytes)) (sym read-taken ∙ p) all-within
 
   -- the listing's numbers stand in front of the room
-  pub read-numbers : (n : ℕ) → t ≡ Listing n → take n room′ ≡ numbersOf bytes
+  pub read-numbers : (n : ℕ) → t ≡ Listing n → take n room′ ≡ numbersIn bytes
   unfolding Within
   read-numbers n p =
-      let all : n ≡ 0 + length (numbersOf bytes) = subst (Within (length bytes) 0 (numbersOf bytes)) (sym read-taken ∙ p) all-within .1 in
+      let all : n ≡ 0 + length (numbersIn bytes) = subst (Within (length bytes) 0 (numbersIn bytes)) (sym read-taken ∙ p) all-within .1 in
       let fits : n ≤ length bytes = read-count n p in
       ap (λ (r : Reading). take n (r .numbers)) read-all
-      ∙ ap (take n) (sets-eq (numbersOf bytes) room 0 (omega arith))
-      ∙ take-at (numbersOf bytes) (drop (0 + length (numbersOf bytes)) room) n (omega arith)
+      ∙ ap (take n) (sets-eq (numbersIn bytes) room 0 (omega arith))
+      ∙ take-at (numbersIn bytes) (drop (0 + length (numbersIn bytes)) room) n (omega arith)

@@ -10,7 +10,7 @@ use mir.Val.{Fits}
 use lib.Dec.{lit<, ltb, eqb}
 use lib.ListN.{length, getD}
 use borrow.Author.Tests.{ltb-true}
-use Rattle.choice.specs.Pick.{is-less, not-less, both, each-way}
+use Rattle.choice.specs.Pick.{is-less, not-less, is-equal, not-equal, both, each-way}
 use Rattle.number.specs.declared.Found.{Found}
 use Rattle.number.specs.declared.Found.the-variants.{Number, Ended, Malformed}
 use Rattle.number.specs.Number.{GROUPS, CONTINUES, malformedOf, lastOf, groupsOf, readOf}
@@ -58,6 +58,13 @@ group-sum-fits v b scale h = sum-fits v (b % 128) scale h (omega arith)
 pub scale-times-fits : (left scale : ℕ) → 0 < left → scale ≡ scaleAt left → Fits w64 (scale * 128)
 scale-times-fits left scale h e = record { fits = omega (arith, scale-fits left scale h e) }
 
+alone-last : (b first : ℕ) → b < CONTINUES → Number b (first + 1) ≡ lastOf 0 1 b first first
+unfolding lastOf
+alone-last zero first g = is-equal 0 0 _ _ _ refl (is-equal first first _ _ _ refl refl)
+alone-last (suc b) first g =
+    let itself : suc b ≡ 0 + suc b * 1 = omega arith in
+    not-equal (suc b) 0 _ _ _ (λ q. omega arith) (is-less (0 + suc b * 1) (2 ^ 32) _ _ _ (omega arith) (ap (λ (x : ℕ). Number x (first + 1)) itself))
+
 -- the turns of the loop: the whole reading is what is left of it from each turn on
 module _ (whole : Found) (left : ℕ) (bytes : List ℕ) (first at v scale : ℕ) (inv : whole ≡ groupsOf left bytes first at v scale) where
   one-taken : 0 < left → whole ≡ groupsOf (suc (left - 1)) bytes first at v scale
@@ -86,6 +93,10 @@ module _ (whole : Found) (left : ℕ) (bytes : List ℕ) (first at v scale : ℕ
   too-long r h p =
       let e : left ≡ 0 = omega arith in
       p ∙ sym (inv ∙ ap (λ (n : ℕ). groupsOf n bytes first at v scale) e)
+
+-- a byte that does not continue is a number by itself
+pub single : (bytes : List ℕ) (first : ℕ) → first < length bytes → getD bytes first 0 < CONTINUES → Number (getD bytes first 0) (first + 1) ≡ readOf bytes first
+single bytes first h c = at-last (readOf bytes first) GROUPS bytes first first 0 1 refl (Number (getD bytes first 0) (first + 1)) (lit< tt) h c (alone-last (getD bytes first 0) first c)
 
 pub ruleset groups = (scale-first, scale-next, scale-fits, scale-times-fits, group-below, goes-on, at-last, at-end, too-long)
 

@@ -56,8 +56,8 @@ fn with_group(value: u64, scale: u64, b: u8) -> u64
     value + (b % 128) as u64 * scale
 }
 
-// Reads the number that begins at a place.
-pub fn read(bytes: &[u8], first: usize) -> Found
+// Reads the number that begins at a place, group by group.
+fn read_groups(bytes: &[u8], first: usize) -> Found
     ensures { λ r. ⌜ r ≡ readOf (now (bytes .entry)) first ⌝ }
 {
     let mut at = first;
@@ -79,4 +79,17 @@ pub fn read(bytes: &[u8], first: usize) -> Found
         }
     }
     malformed(first, at - 1)
+}
+
+// Reads the number that begins at a place. Most numbers of a packet are one byte.
+pub fn read(bytes: &[u8], first: usize) -> Found
+    ensures { λ r. ⌜ r ≡ readOf (now (bytes .entry)) first ⌝ }
+{
+    if first < bytes.len() {
+        let b = bytes[first];
+        if b < CONTINUES {
+            return Found::Number(b as u32, first + 1);
+        }
+    }
+    read_groups(bytes, first)
 }
