@@ -26,6 +26,7 @@ use Rattle.listing.specs.declared.reading.Taken.{Taken}
 use Rattle.listing.specs.declared.reading.Taken.the-variants.{Listing, Fault, NoRoom}
 use Rattle.listing.specs.Limits.{BYTES, ENDED, MALFORMED, LEFT-OVER, TOO-LONG}
 use Rattle.listing.specs.Grammar.{nextOf}
+use Rattle.listing.specs.Listing.{Each}
 use Rattle.listing.specs.Fold.{foldOf}
 use Rattle.listing.specs.Sorts.{refused-never-ends}
 use Rattle.listing.specs.Packet.{dueThen, foundThen, gotOf, endOf, numbersThen, numbersFrom, takenThen, takenFrom, numbersIn, takenOf}
@@ -96,10 +97,6 @@ module _ (bytes : List ℕ) (below : (i : ℕ) → getD bytes i 0 < 256) where
       (either (ltb BYTES (length bytes)) _ _ (Listing n) e)
 
 -- the other way: numbers that the grammar takes to its end, whose bytes stand there to the end
-unfoldable pub EachBelow : ℕ → List ℕ → Type 0
-EachBelow k [] = Unit {0}
-EachBelow k (n ∷ ns) = (n < k) × EachBelow k ns
-
 -- the reader's answer is a listing of these numbers
 record Reads (bytes : List ℕ) (fuel : ℕ) (due : Due) (at count : ℕ) (ns : List ℕ) : Type 0 where
   taken : takenFrom fuel bytes due at count ≡ Listing (count + length ns)
@@ -134,8 +131,8 @@ module _ (bytes : List ℕ) where
   got-standing at w n behind End ns e g f = ap (λ (x : Found). foundThen x (length bytes) at w) e ∙ ap (λ (x : Due). dueThen x n at behind) g
   got-standing at w n behind (Refused k) ns e g f = absurd (refused-never-ends k ns f)
 
-  reads : (ns : List ℕ) (fuel : ℕ) (due : Due) (at count : ℕ) → EachBelow (2 ^ 32) ns → drop at bytes ≡ bytesOf ns → foldOf due ns ≡ End → length ns < fuel → Reads bytes fuel due at count ns
-  unfolding foldOf bytesOf EachBelow
+  reads : (ns : List ℕ) (fuel : ℕ) (due : Due) (at count : ℕ) → Each (λ (n : ℕ). n < 2 ^ 32) ns → drop at bytes ≡ bytesOf ns → foldOf due ns ≡ End → length ns < fuel → Reads bytes fuel due at count ns
+  unfolding foldOf bytesOf
   reads [] zero due at count b e f h = absurd (omega arith)
   reads [] (suc fuel) (Next w) at count b e f h = never cc
   reads [] (suc fuel) End at count b e f h = reads-end fuel at count e
@@ -157,7 +154,7 @@ as-many [] = zero-le
 as-many (n ∷ ns) = omega (arith, length-append (encodeOf n) (bytesOf ns), encode-some n, as-many ns)
 
 -- numbers that the grammar takes to its end are taken from their bytes, where these are not over the packet limit
-pub bytes-taken : (ns : List ℕ) → EachBelow (2 ^ 32) ns → foldOf (Next Edition) ns ≡ End → length (bytesOf ns) ≤ BYTES
+pub bytes-taken : (ns : List ℕ) → Each (λ (n : ℕ). n < 2 ^ 32) ns → foldOf (Next Edition) ns ≡ End → length (bytesOf ns) ≤ BYTES
     → (takenOf (bytesOf ns) ≡ Listing (length ns)) × (numbersIn (bytesOf ns) ≡ ns)
 unfolding takenOf numbersIn
 bytes-taken ns b f h =

@@ -10,6 +10,9 @@ pub mod Fold  -- what is due after a row of numbers
 pub mod Sorts  -- how the grammar reads the values of a sort
 pub mod ItemLaws  -- the reading of an item
 pub mod ListingLaws  -- a listing is a row of numbers that the grammar takes to its end, and the other way round
-pub mod Bytes  -- the bytes of a row of numbers
+pub mod Bytes  -- the bytes of a row of numbers, and the packet of a listing
 pub mod ByteLaws  -- a packet is taken exactly where it is the bytes of numbers that the grammar takes
 pub mod FaultLaws  -- a refusal names the first fault
+pub mod RangeLaws  -- every number of a listing within the ranges can stand in a packet
+pub mod Theorems  -- a packet is taken exactly where it is the bytes of a listing, and of one
+pub mod Unique  -- any two results that meet a promise are equal
