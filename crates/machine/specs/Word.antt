@@ -34,7 +34,7 @@ pub data Kind : Type 0 where
   compute-immediate : (op rd rs i : ℕ) → Kind
   bad : Kind
 
--- a kind whose unused parts are zero, which they are where their sum is
+-- a kind that leaves `unused` unused, a number that is 0 where all its unused parts are; else the word is bad
 unfoldable pub whole : ℕ → Kind → Kind
 whole unused k = pick (eqb unused 0) k bad
 
