@@ -15,7 +15,9 @@ const DOES_NOT_FIT: u8 = 35;
 
 // The bytes of packets for which there is a room of their own. The longest packet that is taken has
 // fewer bytes than a long one here.
-const SMALL_PACKET: usize = 256;
+const SMALL_PACKET: usize = 128;
+
+const SHORT_PACKET: usize = 1024;
 
 const MIDDLE_PACKET: usize = 4096;
 
@@ -52,9 +54,15 @@ fn read_in(room: &mut [u32], packet: &[u8], numbers: &mut [u8]) -> u64
 // clearing the longest one's room.
 
 fn small_room() -> [u32; SMALL_PACKET]
-    ensures { λ r. ⌜ length r ≡ 256 ⌝ }
+    ensures { λ r. ⌜ length r ≡ 128 ⌝ }
 {
     [0; SMALL_PACKET]
+}
+
+fn short_room() -> [u32; SHORT_PACKET]
+    ensures { λ r. ⌜ length r ≡ 1024 ⌝ }
+{
+    [0; SHORT_PACKET]
 }
 
 fn middle_room() -> [u32; MIDDLE_PACKET]
@@ -76,10 +84,18 @@ fn longest_room() -> [u32; BYTES]
 }
 
 fn read_small(packet: &[u8], numbers: &mut [u8]) -> u64
-    requires { ⌜ length (now packet) ≤ 256 ⌝ }
+    requires { ⌜ length (now packet) ≤ 128 ⌝ }
     ensures { λ a. ⌜ readCall a (now (numbers .exit)) ≡ vansReadOf (now (packet .entry)) (now (numbers .entry)) ⌝ }
 {
     let mut room = small_room();
+    read_in(&mut room, packet, numbers)
+}
+
+fn read_short(packet: &[u8], numbers: &mut [u8]) -> u64
+    requires { ⌜ length (now packet) ≤ 1024 ⌝ }
+    ensures { λ a. ⌜ readCall a (now (numbers .exit)) ≡ vansReadOf (now (packet .entry)) (now (numbers .entry)) ⌝ }
+{
+    let mut room = short_room();
     read_in(&mut room, packet, numbers)
 }
 
@@ -120,16 +136,22 @@ fn read_from(size: u32, packet: &[u8], numbers: &mut [u8]) -> u64
         return read_from(1, packet, numbers);
     }
     if size == 1 {
-        if packet.len() <= MIDDLE_PACKET {
-            return read_middle(packet, numbers);
+        if packet.len() <= SHORT_PACKET {
+            return read_short(packet, numbers);
         }
         return read_from(2, packet, numbers);
     }
     if size == 2 {
+        if packet.len() <= MIDDLE_PACKET {
+            return read_middle(packet, numbers);
+        }
+        return read_from(3, packet, numbers);
+    }
+    if size == 3 {
         if packet.len() <= LONG_PACKET {
             return read_long(packet, numbers);
         }
-        return read_from(3, packet, numbers);
+        return read_from(4, packet, numbers);
     }
     read_longest(packet, numbers)
 }

@@ -1,4 +1,4 @@
--- `read_from` takes the smallest room from a size on that is large enough. Each call of itself is for a larger size, of which there are three.
+-- `read_from` takes the smallest room from a size on that is large enough. Each call of itself is for a larger size, of which there are four.
 use Prim.Native.Nat.{ℕ, _-_, _<_}
 use borrow.Author.Needs.{needs}
 use borrow.Fn.Kinds.{In}
@@ -9,12 +9,13 @@ use Rattle.desk.proofs.read_call.+read_from.Lts-read_from as read-from-
 use Rattle.desk.proofs.read_call.read_long.Reads as read-long-reads
 use Rattle.desk.proofs.read_call.read_longest.Reads as read-longest-reads
 use Rattle.desk.proofs.read_call.read_middle.Reads as read-middle-reads
+use Rattle.desk.proofs.read_call.read_short.Reads as read-short-reads
 use Rattle.desk.proofs.read_call.read_small.Reads as read-small-reads
 use Rattle.desk.proofs.read_call.+read_from.{statement}
 use Rattle.desk.proofs.read_call.+read_from.Tie.{close}
 
 abbrev μ-read-from : Measures 2 read-from-kinds.ps ℕ
-μ-read-from κs a = 3 - a .0
+μ-read-from κs a = 4 - a .0
 
 abbrev read-from-at : ℕ → In 2 read-from-kinds.ps
 read-from-at t = and 2 read-from-kinds.ps (is 2 read-from-kinds.ps μ-read-from t) read-from.Pre
@@ -29,6 +30,8 @@ pub +read-from-spec : {M : Type 1} → statement M
   read-small-reads.Learnt,
   read-from-below t,
   read-from.Post,
+  read-short-reads.Asked,
+  read-short-reads.Learnt,
   read-middle-reads.Asked,
   read-middle-reads.Learnt,
   read-long-reads.Asked,
@@ -38,6 +41,12 @@ pub +read-from-spec : {M : Type 1} → statement M
 )
     (read-from-at t)
     read-from.Post
+    (λ c κs. search needs)
+    (λ c. search needs)
+    (λ c. search needs)
+    (λ c κs. search needs)
+    (λ c. search needs)
+    (λ c. search needs)
     (λ c κs. search needs)
     (λ c. search needs)
     (λ c. search needs)
