@@ -28,11 +28,11 @@ handedOf ns n numbers =
     pick (ltb (length numbers / 4) n) (readCall (answerOf DOES-NOT-FIT n 0) numbers)
     (readCall (answerOf 0 0 n) (bytesOf ns ++ drop (n * 4) numbers))
 
--- by what the packet is: a fault leaves the buffer as it was
+-- by what the packet is: a fault leaves the buffer as it was. takenOf is never NoRoom; were it, that would be a refusal
 unfoldable pub byTaken : Taken → List ℕ → List ℕ → ReadCall
 byTaken (Listing n) ns numbers = handedOf ns n numbers
 byTaken (Fault k place) ns numbers = readCall (answerOf k place 0) numbers
-byTaken NoRoom ns numbers = readCall (answerOf 0 0 0) numbers
+byTaken NoRoom ns numbers = readCall (answerOf DOES-NOT-FIT 0 0) numbers
 
 -- the call
 unfoldable pub vansReadOf : List ℕ → List ℕ → ReadCall

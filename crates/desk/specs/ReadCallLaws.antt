@@ -70,7 +70,7 @@ module _ (packet numbers : List ℕ) (c : ReadCall) where
     reads-fault a number place p q s =
         as-taken (Fault number place) (sym (read-taken packet room room′ t e h k) ∙ p) (s ∙ ap (λ (x : ℕ). readCall x numbers) q)
 
-    pub reads-no-room : (a : ℕ) → t ≡ NoRoom → a ≡ answerOf 0 0 0 → c ≡ readCall a numbers → c ≡ vansReadOf packet numbers
+    pub reads-no-room : (a : ℕ) → t ≡ NoRoom → a ≡ answerOf DOES-NOT-FIT 0 0 → c ≡ readCall a numbers → c ≡ vansReadOf packet numbers
     unfolding byTaken
     reads-no-room a p q s =
         as-taken NoRoom (sym (read-taken packet room room′ t e h k) ∙ p) (s ∙ ap (λ (x : ℕ). readCall x numbers) q)

@@ -46,7 +46,7 @@ fn read_in(room: &mut [u32], packet: &[u8], numbers: &mut [u8]) -> u64
     match listing::read(packet, room) {
         Taken::Listing(n) => hand_over(room, n, numbers),
         Taken::Fault(k, place) => answer(k, place as u32, 0),
-        Taken::NoRoom => answer(0, 0, 0),
+        Taken::NoRoom => answer(DOES_NOT_FIT, 0, 0),
     }
 }
 
