@@ -1,2 +1,3 @@
 -- the choice by a test, and its laws, from which proofs of code take each branch
 pub mod Pick
+pub mod Ends  -- reading and writing past a list's end

@@ -37,7 +37,14 @@ module _ {A : Type 0} where
   pub other-literal : (a k n : ℕ) (r x y : A) → a ≡ k → eqb k n ≡ false → r ≡ y → r ≡ pick (eqb a n) x y
   other-literal a k n r x y e d = is-false (eqb a n) r x y (ap (λ (i : ℕ). eqb i n) e ∙ d)
 
-pub ruleset cases = (refl, other-literal, is-less, not-less, is-equal, not-equal, is-true, is-false)
+  -- nor is it on the other side of a bound
+  pub literal-less : (a k n : ℕ) (r x y : A) → a ≡ k → ltb k n ≡ true → r ≡ x → r ≡ pick (ltb a n) x y
+  literal-less a k n r x y e d = is-true (ltb a n) r x y (ap (λ (i : ℕ). ltb i n) e ∙ d)
+
+  pub literal-not-less : (a k n : ℕ) (r x y : A) → a ≡ k → ltb k n ≡ false → r ≡ y → r ≡ pick (ltb a n) x y
+  literal-not-less a k n r x y e d = is-false (ltb a n) r x y (ap (λ (i : ℕ). ltb i n) e ∙ d)
+
+pub ruleset cases = (refl, other-literal, literal-less, literal-not-less, is-less, not-less, is-equal, not-equal, is-true, is-false)
 
 -- what holds of both ways, each under its test, holds of the choice; a function goes through a choice; what a choice is, one of its ways is
 module _ {A : Type 0} where

@@ -1,4 +1,4 @@
--- The reading of an item: its number, and behind it the operands that the number asks for. `itemAt` makes the item of a number and of operands again, so that no row is two items'.
+-- The reading of an item: its number, and behind it the operands that the number asks for. `item-again`: it is made again from its row, so that no row is two items'.
 use Prim.Native.Nat.{ℕ, _≤_, _<_}
 use native.Mathlib.Omega.{arith}
 use native.Mathlib.Decide.{ℕ-discrete}
@@ -11,8 +11,11 @@ use Rattle.choice.specs.Pick.{pick, is-less, not-less, not-equal, if-equal, if-
 use Rattle.listing.specs.declared.grammar.Wanted.the-variants.{ItemNumber, OperandLabel, BranchRegister, OperandFirst, OperandSecond, OperandThird}
 use Rattle.listing.specs.declared.grammar.Due.{Due}
 use Rattle.listing.specs.declared.grammar.Due.the-variants.{Next, End}
+use Rattle.listing.specs.declared.items.Item.{Item}
+use Rattle.listing.specs.declared.items.Item.the-variants.{Halt, Jmp, Bnz, Load, Store, Compute, ComputeImmediate, Cpush, Cjmp, Label}
 use Rattle.listing.specs.Limits.{TOP-ITEM, TOP-PART, TOP-IMMEDIATE}
-use Rattle.listing.specs.Listing.{Item, halt, jmp, bnz, load, store, compute, compute-immediate, cpush, cjmp, label, single, itemNumbers, Within, ItemRange}
+use Rattle.listing.specs.Listing.{single, itemNumbers, Within, ItemRange}
+use Rattle.listing.specs.Parts.{itemOf, itemAt}
 use Rattle.listing.specs.Grammar.{nextOf, itemsFrom, operandsFrom}
 use Rattle.listing.specs.Fold.{foldOf}
 use Rattle.listing.specs.Sorts.{Sort, Found, within-read, below-read, nothing-read, in-turn}
@@ -20,34 +23,28 @@ use Rattle.listing.specs.Sorts.{Sort, Found, within-read, below-read, no
 equal-or-not : {X : Type 0} (a b : ℕ) → (a ≡ b → X) → ((a ≡ b → ⊥) → X) → X
 equal-or-not a b p q = elim (ℕ-discrete a b) [ yes e ↦ p e | no e ↦ q e ]
 
--- the item of a number and of operands, of which it takes as many as it has
-itemAt : ℕ → ℕ → ℕ → ℕ → Item
-itemAt n a b c =
-    pick (ltb n 5)
-    (pick (eqb n 0) halt
-    (pick (eqb n 1) (jmp a)
-    (pick (eqb n 2) (bnz a b)
-    (pick (eqb n 3) (load a b c) (store a b c)))))
-    (pick (ltb n 10) (compute n a b c)
-    (pick (ltb n 15) (compute-immediate n a b c)
-    (pick (eqb n 15) (cpush a)
-    (pick (eqb n 16) (cjmp a) (label a)))))
+-- behind the first five item numbers
+operation : (n : ℕ) (x₀ x₁ x₂ x₃ x₄ i x : Item) → 5 ≤ n → i ≡ x → i ≡ pick (eqb n 0) x₀ (pick (eqb n 1) x₁ (pick (eqb n 2) x₂ (pick (eqb n 3) x₃ (pick (eqb n 4) x₄ x))))
+operation n x₀ x₁ x₂ x₃ x₄ i x h p =
+    not-equal n 0 _ _ _ (omega arith)
+    (not-equal n 1 _ _ _ (omega arith)
+    (not-equal n 2 _ _ _ (omega arith)
+    (not-equal n 3 _ _ _ (omega arith)
+    (not-equal n 4 _ _ _ (omega arith) p))))
 
-itemFrom : List ℕ → Item
-itemFrom ns = itemAt (getD ns 0 0) (getD ns 1 0) (getD ns 2 0) (getD ns 3 0)
-
-item-again : (labels : ℕ) (i : Item) (rest : List ℕ) → ItemRange labels i → i ≡ itemFrom (itemNumbers i ++ rest)
-unfolding itemNumbers itemFrom itemAt pick
-item-again labels halt rest h = refl
-item-again labels (jmp l) rest h = refl
-item-again labels (bnz rs l) rest h = refl
-item-again labels (load rd rs c) rest h = refl
-item-again labels (store rd c rs) rest h = refl
-item-again labels (compute op rd rs rt) rest h = not-less op 5 _ _ _ (h .0 .0) (is-less op 10 _ _ _ (omega arith) refl)
-item-again labels (compute-immediate op rd rs i) rest h = not-less op 5 _ _ _ (omega arith) (not-less op 10 _ _ _ (h .0 .0) (is-less op 15 _ _ _ (omega arith) refl))
-item-again labels (cpush l) rest h = refl
-item-again labels (cjmp l) rest h = refl
-item-again labels (label l) rest h = refl
+-- an item is made again from its row
+pub item-again : (labels : ℕ) (i : Item) (rest : List ℕ) → ItemRange labels i → i ≡ itemAt (itemNumbers i ++ rest) 0
+unfolding itemNumbers itemOf pick
+item-again labels Halt rest h = refl
+item-again labels (Jmp l) rest h = refl
+item-again labels (Bnz rs l) rest h = refl
+item-again labels (Load rd rs c) rest h = refl
+item-again labels (Store rd c rs) rest h = refl
+item-again labels (Compute op rd rs rt) rest h = operation op _ _ _ _ _ _ _ (omega arith) (is-less op 10 _ _ _ (omega arith) refl)
+item-again labels (ComputeImmediate op rd rs i) rest h = operation op _ _ _ _ _ _ _ (omega arith) (not-less op 10 _ _ _ (h .0 .0) (is-less op 15 _ _ _ (omega arith) refl))
+item-again labels (Cpush l) rest h = refl
+item-again labels (Cjmp l) rest h = refl
+item-again labels (Label l) rest h = refl
 
 module _ (labels more : ℕ) where
   item-number-read : Sort (Next (ItemNumber labels more)) single (Within 0 TOP-ITEM) (operandsFrom labels more)
@@ -94,18 +91,18 @@ module _ (labels more : ℕ) where
 
   item-taken : (i : Item) (rest : List ℕ) → ItemRange labels i → foldOf (Next (ItemNumber labels more)) (itemNumbers i ++ rest) ≡ foldOf (itemsFrom labels more) rest
   unfolding itemNumbers operandsFrom pick
-  item-taken halt rest h = behind-number 0 rest rest _ (omega arith) refl refl
-  item-taken (jmp l) rest h = behind-number 1 _ rest _ (omega arith) refl (target-read .taken l rest h)
-  item-taken (bnz rs l) rest h = behind-number 2 _ rest _ (omega arith) refl (branch-read .taken (rs, l) rest h)
-  item-taken (load rd rs c) rest h = behind-number 3 _ rest _ (omega arith) refl (three-read TOP-PART .taken (rd, (rs, c)) rest (h .0, (h .1, h .2)))
-  item-taken (store rd c rs) rest h = behind-number 4 _ rest _ (omega arith) refl (three-read TOP-PART .taken (rd, (c, rs)) rest (h .0, (h .1, h .2)))
-  item-taken (compute op rd rs rt) rest h =
+  item-taken Halt rest h = behind-number 0 rest rest _ (omega arith) refl refl
+  item-taken (Jmp l) rest h = behind-number 1 _ rest _ (omega arith) refl (target-read .taken l rest h)
+  item-taken (Bnz rs l) rest h = behind-number 2 _ rest _ (omega arith) refl (branch-read .taken (rs, l) rest h)
+  item-taken (Load rd rs c) rest h = behind-number 3 _ rest _ (omega arith) refl (three-read TOP-PART .taken (rd, (rs, c)) rest (h .0, (h .1, h .2)))
+  item-taken (Store rd c rs) rest h = behind-number 4 _ rest _ (omega arith) refl (three-read TOP-PART .taken (rd, (c, rs)) rest (h .0, (h .1, h .2)))
+  item-taken (Compute op rd rs rt) rest h =
       behind-number op _ rest _ (omega arith) (asks-parts op (omega arith)) (three-read TOP-PART .taken (rd, (rs, rt)) rest (h .1, (h .2, h .3)))
-  item-taken (compute-immediate op rd rs i) rest h =
+  item-taken (ComputeImmediate op rd rs i) rest h =
       behind-number op _ rest _ (omega arith) (asks-immediate op (h .0)) (three-read TOP-IMMEDIATE .taken (rd, (rs, i)) rest (h .1, (h .2, h .3)))
-  item-taken (cpush l) rest h = behind-number 15 _ rest _ (omega arith) refl (target-read .taken l rest h)
-  item-taken (cjmp l) rest h = behind-number 16 _ rest _ (omega arith) refl (target-read .taken l rest h)
-  item-taken (label l) rest h = behind-number 17 _ rest _ (omega arith) refl (target-read .taken l rest h)
+  item-taken (Cpush l) rest h = behind-number 15 _ rest _ (omega arith) refl (target-read .taken l rest h)
+  item-taken (Cjmp l) rest h = behind-number 16 _ rest _ (omega arith) refl (target-read .taken l rest h)
+  item-taken (Label l) rest h = behind-number 17 _ rest _ (omega arith) refl (target-read .taken l rest h)
 
 -- an item behind its number n, by the operands that n asks for
 module _ (labels more n : ℕ) (ns : List ℕ) where
@@ -127,27 +124,27 @@ module _ (labels more n : ℕ) (ns : List ℕ) where
   label-found : Within 15 TOP-ITEM n → FoundAt (Next (OperandLabel labels more))
   unfolding itemNumbers
   label-found h =
-      equal-or-not n 15 (item-of 15 cpush (target-read labels more) (λ l. refl) (λ l r. r))
-      (λ n15. equal-or-not n 16 (item-of 16 cjmp (target-read labels more) (λ l. refl) (λ l r. r))
-      (λ n16. item-of 17 label (target-read labels more) (λ l. refl) (λ l r. r) (omega arith)))
+      equal-or-not n 15 (item-of 15 Cpush (target-read labels more) (λ l. refl) (λ l r. r))
+      (λ n15. equal-or-not n 16 (item-of 16 Cjmp (target-read labels more) (λ l. refl) (λ l r. r))
+      (λ n16. item-of 17 Label (target-read labels more) (λ l. refl) (λ l r. r) (omega arith)))
 
   parts-found : Within 3 9 n → FoundAt (Next (OperandFirst labels more TOP-PART))
   unfolding itemNumbers
   parts-found h =
-      equal-or-not n 3 (item-of 3 (λ p. load (p .0) (p .1 .0) (p .1 .1)) (three-read labels more TOP-PART) (λ p. refl) (λ p r. (r .0, r .1 .0, r .1 .1)))
-      (λ n3. equal-or-not n 4 (item-of 4 (λ p. store (p .0) (p .1 .0) (p .1 .1)) (three-read labels more TOP-PART) (λ p. refl) (λ p r. (r .0, r .1 .0, r .1 .1)))
-      (λ n4. item-of n (λ p. compute n (p .0) (p .1 .0) (p .1 .1)) (three-read labels more TOP-PART) (λ p. refl) (λ p r. (omega arith, r .0, r .1 .0, r .1 .1)) refl))
+      equal-or-not n 3 (item-of 3 (λ p. Load (p .0) (p .1 .0) (p .1 .1)) (three-read labels more TOP-PART) (λ p. refl) (λ p r. (r .0, r .1 .0, r .1 .1)))
+      (λ n3. equal-or-not n 4 (item-of 4 (λ p. Store (p .0) (p .1 .0) (p .1 .1)) (three-read labels more TOP-PART) (λ p. refl) (λ p r. (r .0, r .1 .0, r .1 .1)))
+      (λ n4. item-of n (λ p. Compute n (p .0) (p .1 .0) (p .1 .1)) (three-read labels more TOP-PART) (λ p. refl) (λ p r. (omega arith, r .0, r .1 .0, r .1 .1)) refl))
 
   immediate-found : Within 10 14 n → FoundAt (Next (OperandFirst labels more TOP-IMMEDIATE))
   unfolding itemNumbers
-  immediate-found h = item-of n (λ p. compute-immediate n (p .0) (p .1 .0) (p .1 .1)) (three-read labels more TOP-IMMEDIATE) (λ p. refl) (λ p r. (h, r .0, r .1 .0, r .1 .1)) refl
+  immediate-found h = item-of n (λ p. ComputeImmediate n (p .0) (p .1 .0) (p .1 .1)) (three-read labels more TOP-IMMEDIATE) (λ p. refl) (λ p r. (h, r .0, r .1 .0, r .1 .1)) refl
 
   operands-found : Within 0 TOP-ITEM n → FoundAt (operandsFrom labels more n)
   unfolding operandsFrom itemNumbers
   operands-found h =
-      if-equal FoundAt n 0 _ _ (item-of 0 (λ u. halt) (nothing-read (itemsFrom labels more)) (λ u. refl) (λ u r. r))
-      (λ n0. if-equal FoundAt n 1 _ _ (item-of 1 jmp (target-read labels more) (λ l. refl) (λ l r. r))
-      (λ n1. if-equal FoundAt n 2 _ _ (item-of 2 (λ p. bnz (p .0) (p .1)) (branch-read labels more) (λ p. refl) (λ p r. r))
+      if-equal FoundAt n 0 _ _ (item-of 0 (λ u. Halt) (nothing-read (itemsFrom labels more)) (λ u. refl) (λ u r. r))
+      (λ n0. if-equal FoundAt n 1 _ _ (item-of 1 Jmp (target-read labels more) (λ l. refl) (λ l r. r))
+      (λ n1. if-equal FoundAt n 2 _ _ (item-of 2 (λ p. Bnz (p .0) (p .1)) (branch-read labels more) (λ p. refl) (λ p r. r))
       (λ n2. if-less FoundAt n 10 _ _ (λ n9. parts-found (omega arith))
       (λ n10. if-less FoundAt n 15 _ _ (λ n14. immediate-found (omega arith)) (λ n15. label-found (omega arith))))))
 
@@ -159,6 +156,6 @@ item-read labels more =
           let x = item-number-read labels more .found ns e in
           subst (Found itemNumbers (ItemRange labels) (λ i. itemsFrom labels more)) (sym (x .read)) (operands-found labels more (x .value) (x .rest) (x .in-range) (x .ended));
       alone = λ i j r s h k same.
-          let e : i ≡ j = item-again labels i r h ∙ (ap itemFrom same ∙ sym (item-again labels j s k)) in
+          let e : i ≡ j = item-again labels i r h ∙ (ap (λ (ns : List ℕ). itemAt ns 0) same ∙ sym (item-again labels j s k)) in
           (e, append-cancel-left (itemNumbers i) r s (same ∙ ap (λ (x : Item). itemNumbers x ++ s) (sym e)));
     }

@@ -2,6 +2,8 @@
 use Prim.Native.Nat.{ℕ, _≤_, _<_}
 use mathlib.Core.List.{List, [], _∷_, _++_, flatMap}
 use lib.ListN.{length}
+use Rattle.listing.specs.declared.items.Item.{Item}
+use Rattle.listing.specs.declared.items.Item.the-variants.{Halt, Jmp, Bnz, Load, Store, Compute, ComputeImmediate, Cpush, Cjmp, Label}
 use Rattle.listing.specs.Limits.{EDITION, SHAPES, FIELDS, LABELS, STACK, REGISTERS, ITEMS, TOP-LEVEL, TOP-PART, TOP-IMMEDIATE}
 
 -- a field of a shape; its kind is 0 for an integer, k for a pointer to shape k − 1
@@ -16,28 +18,15 @@ pub record Register : Type 0 where
   pub level : ℕ
 
 -- a label's context: its pc level, its stack of labels, top first, and the registers that it lists
-pub record Label : Type 0 where
+pub record LabelContext : Type 0 where
   pub level : ℕ
   pub stack : List ℕ
   pub registers : List Register
 
--- an item, its operands in the packet's order. op is the item number: 5 to 9 for add, sub, and, xor, slt, and 10 to 14 for the same with an immediate; i is the packet's number, 32,768 more than the immediate.
-pub data Item : Type 0 where
-  halt : Item
-  jmp : (l : ℕ) → Item
-  bnz : (rs l : ℕ) → Item
-  load : (rd rs c : ℕ) → Item
-  store : (rd c rs : ℕ) → Item
-  compute : (op rd rs rt : ℕ) → Item
-  compute-immediate : (op rd rs i : ℕ) → Item
-  cpush : (l : ℕ) → Item
-  cjmp : (l : ℕ) → Item
-  label : (l : ℕ) → Item
-
 -- a shape is its fields
 pub record Listing : Type 0 where
   pub shapes : List (List Field)
-  pub labels : List Label
+  pub labels : List LabelContext
   pub items : List Item
 
 -- the numbers of a list: its count, then the numbers of each element
@@ -55,21 +44,21 @@ fieldNumbers f = f .kind ∷ f .level ∷ []
 unfoldable pub registerNumbers : Register → List ℕ
 registerNumbers r = r .index ∷ r .kind ∷ r .level ∷ []
 
-unfoldable pub labelNumbers : Label → List ℕ
+unfoldable pub labelNumbers : LabelContext → List ℕ
 labelNumbers l = l .level ∷ (counted single (l .stack) ++ counted registerNumbers (l .registers))
 
 -- the table of items: the item number, then its operands
 unfoldable pub itemNumbers : Item → List ℕ
-itemNumbers halt = 0 ∷ []
-itemNumbers (jmp l) = 1 ∷ l ∷ []
-itemNumbers (bnz rs l) = 2 ∷ rs ∷ l ∷ []
-itemNumbers (load rd rs c) = 3 ∷ rd ∷ rs ∷ c ∷ []
-itemNumbers (store rd c rs) = 4 ∷ rd ∷ c ∷ rs ∷ []
-itemNumbers (compute op rd rs rt) = op ∷ rd ∷ rs ∷ rt ∷ []
-itemNumbers (compute-immediate op rd rs i) = op ∷ rd ∷ rs ∷ i ∷ []
-itemNumbers (cpush l) = 15 ∷ l ∷ []
-itemNumbers (cjmp l) = 16 ∷ l ∷ []
-itemNumbers (label l) = 17 ∷ l ∷ []
+itemNumbers Halt = 0 ∷ []
+itemNumbers (Jmp l) = 1 ∷ l ∷ []
+itemNumbers (Bnz rs l) = 2 ∷ rs ∷ l ∷ []
+itemNumbers (Load rd rs c) = 3 ∷ rd ∷ rs ∷ c ∷ []
+itemNumbers (Store rd c rs) = 4 ∷ rd ∷ c ∷ rs ∷ []
+itemNumbers (Compute op rd rs rt) = op ∷ rd ∷ rs ∷ rt ∷ []
+itemNumbers (ComputeImmediate op rd rs i) = op ∷ rd ∷ rs ∷ i ∷ []
+itemNumbers (Cpush l) = 15 ∷ l ∷ []
+itemNumbers (Cjmp l) = 16 ∷ l ∷ []
+itemNumbers (Label l) = 17 ∷ l ∷ []
 
 -- the numbers of a listing in the packet's order
 unfoldable pub numbersOf : Listing → List ℕ
@@ -106,7 +95,7 @@ pub record RegisterRange (shapes last : ℕ) (r : Register) : Type 0 where
   pub level : Within 0 TOP-LEVEL (r .level)
 
 -- a stack of 0 to 16 labels, which are below the label count; 0 to 15 registers
-pub record LabelRange (shapes labels : ℕ) (l : Label) : Type 0 where
+pub record LabelRange (shapes labels : ℕ) (l : LabelContext) : Type 0 where
   pub level : Within 0 TOP-LEVEL (l .level)
   pub depth : Within 0 STACK (length (l .stack))
   pub stack : Each (λ (n : ℕ). n < labels) (l .stack)
@@ -115,16 +104,16 @@ pub record LabelRange (shapes labels : ℕ) (l : Label) : Type 0 where
 
 -- the operands: registers and c from 0 to 15, labels below the label count, immediates
 abbrev pub ItemRange : ℕ → Item → Type 0
-ItemRange labels halt = Unit
-ItemRange labels (jmp l) = l < labels
-ItemRange labels (bnz rs l) = Within 0 TOP-PART rs × (l < labels)
-ItemRange labels (load rd rs c) = Within 0 TOP-PART rd × Within 0 TOP-PART rs × Within 0 TOP-PART c
-ItemRange labels (store rd c rs) = Within 0 TOP-PART rd × Within 0 TOP-PART c × Within 0 TOP-PART rs
-ItemRange labels (compute op rd rs rt) = Within 5 9 op × Within 0 TOP-PART rd × Within 0 TOP-PART rs × Within 0 TOP-PART rt
-ItemRange labels (compute-immediate op rd rs i) = Within 10 14 op × Within 0 TOP-PART rd × Within 0 TOP-PART rs × Within 0 TOP-IMMEDIATE i
-ItemRange labels (cpush l) = l < labels
-ItemRange labels (cjmp l) = l < labels
-ItemRange labels (label l) = l < labels
+ItemRange labels Halt = Unit
+ItemRange labels (Jmp l) = l < labels
+ItemRange labels (Bnz rs l) = Within 0 TOP-PART rs × (l < labels)
+ItemRange labels (Load rd rs c) = Within 0 TOP-PART rd × Within 0 TOP-PART rs × Within 0 TOP-PART c
+ItemRange labels (Store rd c rs) = Within 0 TOP-PART rd × Within 0 TOP-PART c × Within 0 TOP-PART rs
+ItemRange labels (Compute op rd rs rt) = Within 5 9 op × Within 0 TOP-PART rd × Within 0 TOP-PART rs × Within 0 TOP-PART rt
+ItemRange labels (ComputeImmediate op rd rs i) = Within 10 14 op × Within 0 TOP-PART rd × Within 0 TOP-PART rs × Within 0 TOP-IMMEDIATE i
+ItemRange labels (Cpush l) = l < labels
+ItemRange labels (Cjmp l) = l < labels
+ItemRange labels (Label l) = l < labels
 
 -- 0 to 64 shapes, 1 to 128 labels, 1 to 1,024 items, and the ranges of each
 pub record Ranges (l : Listing) : Type 0 where

@@ -3,8 +3,10 @@ use Prim.Native.Nat.{ℕ, _^_, _<_, _≤_}
 use native.Mathlib.Omega.{arith}
 use mathlib.Core.List.{List, [], _∷_, _++_, flatMap}
 use lib.ListN.{length}
+use Rattle.listing.specs.declared.items.Item.{Item}
+use Rattle.listing.specs.declared.items.Item.the-variants.{Halt, Jmp, Bnz, Load, Store, Compute, ComputeImmediate, Cpush, Cjmp, Label}
 use Rattle.listing.specs.Limits.{SHAPES, LABELS}
-use Rattle.listing.specs.Listing.{Field, Register, Label, Item, halt, jmp, bnz, load, store, compute, compute-immediate, cpush, cjmp, label, Listing, counted, single, fieldNumbers, registerNumbers, labelNumbers, itemNumbers, numbersOf, EachAfter, Each, FieldRange, ShapeRange, RegisterRange, LabelRange, ItemRange, Ranges}
+use Rattle.listing.specs.Listing.{Field, Register, LabelContext, Listing, counted, single, fieldNumbers, registerNumbers, labelNumbers, itemNumbers, numbersOf, EachAfter, Each, FieldRange, ShapeRange, RegisterRange, LabelRange, ItemRange, Ranges}
 
 -- a number that can stand in a packet
 abbrev pub Fits : ℕ → Type 0
@@ -27,16 +29,16 @@ each-counted numbers Q index last l h c p = (c, each-flat numbers Q index last l
 
 item-fits : (labels : ℕ) (i : Item) → labels ≤ LABELS → ItemRange labels i → Each Fits (itemNumbers i)
 unfolding itemNumbers
-item-fits labels halt k h = omega arith
-item-fits labels (jmp l) k h = omega arith
-item-fits labels (bnz rs l) k h = omega arith
-item-fits labels (load rd rs c) k h = omega arith
-item-fits labels (store rd c rs) k h = omega arith
-item-fits labels (compute op rd rs rt) k h = omega arith
-item-fits labels (compute-immediate op rd rs i) k h = omega arith
-item-fits labels (cpush l) k h = omega arith
-item-fits labels (cjmp l) k h = omega arith
-item-fits labels (label l) k h = omega arith
+item-fits labels Halt k h = omega arith
+item-fits labels (Jmp l) k h = omega arith
+item-fits labels (Bnz rs l) k h = omega arith
+item-fits labels (Load rd rs c) k h = omega arith
+item-fits labels (Store rd c rs) k h = omega arith
+item-fits labels (Compute op rd rs rt) k h = omega arith
+item-fits labels (ComputeImmediate op rd rs i) k h = omega arith
+item-fits labels (Cpush l) k h = omega arith
+item-fits labels (Cjmp l) k h = omega arith
+item-fits labels (Label l) k h = omega arith
 
 module _ (shapes labels : ℕ) (few : shapes ≤ SHAPES) (some : labels ≤ LABELS) where
   field-fits : (last : ℕ) (f : Field) → FieldRange shapes f → Each Fits (fieldNumbers f)
@@ -50,7 +52,7 @@ module _ (shapes labels : ℕ) (few : shapes ≤ SHAPES) (some : labels ≤ LABE
   unfolding registerNumbers
   register-fits last r h = omega arith
 
-  label-fits : (last : ℕ) (l : Label) → LabelRange shapes labels l → Each Fits (labelNumbers l)
+  label-fits : (last : ℕ) (l : LabelContext) → LabelRange shapes labels l → Each Fits (labelNumbers l)
   unfolding labelNumbers
   label-fits last l r = (
     omega arith,

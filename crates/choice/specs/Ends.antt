@@ -1,0 +1,15 @@
+-- Past a list's end there is nothing to read, and nothing is written there: for functions that test an index before they use it. `ends` holds the laws for a search.
+use Prim.Native.Nat.{ℕ, _≤_}
+use mathlib.Core.Path.{_≡_, sym, _∙_}
+use mathlib.Core.List.{List}
+use lib.ListN.{length, getD, set, List·getD-eq-default}
+use lib.Seq.{set-out}
+
+module _ {A : Type 0} (l : List A) (i : ℕ) where
+  pub read-past : (d r : A) → length l ≤ i → r ≡ d → r ≡ getD l i d
+  read-past d r h p = p ∙ sym (List·getD-eq-default l d h)
+
+  pub set-past : (a : A) → length l ≤ i → l ≡ set l i a
+  set-past a h = sym (set-out l i a h)
+
+pub ruleset ends = (read-past, set-past)
