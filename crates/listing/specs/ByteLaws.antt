@@ -15,7 +15,7 @@ use Rattle.number.specs.declared.Found.{Found}
 use Rattle.number.specs.declared.Found.the-variants.{Number, Ended, Malformed}
 use Rattle.number.specs.Number.{readOf}
 use Rattle.number.specs.Encode.{encodeOf}
-use Rattle.number.specs.EncodeLaws.{Encoded, encode-some, encoded-read, read-standing}
+use Rattle.number.specs.EncodeLaws.{encode-some, encoded-read, read-standing}
 use Rattle.listing.specs.declared.grammar.Wanted.{Wanted}
 use Rattle.listing.specs.declared.grammar.Wanted.the-variants.{Edition}
 use Rattle.listing.specs.declared.grammar.Due.{Due}
@@ -54,47 +54,46 @@ got-found bytes at w (Number x next) v behind d e p = got-due bytes at w x next 
 got-found bytes at w Ended v behind d e p = never cc
 got-found bytes at w (Malformed place) v behind d e p = never cc
 
--- a listing that was taken: its numbers' bytes stand there to the end, and the grammar takes them to its end
-record Stands (bytes : List ℕ) (due : Due) (at : ℕ) (ns : List ℕ) : Type 0 where
-  stand : drop at bytes ≡ bytesOf ns
-  ends : foldOf due ns ≡ End
+-- what holds of the numbers of a packet that is taken: what holds at its end, and goes on from behind a number to the number
+module _ (bytes : List ℕ) (P : Due → ℕ → List ℕ → Type 0) (end : (at : ℕ) → length bytes ≤ at → P End at [])
+    (more : (at : ℕ) (w : Wanted) (v behind : ℕ) (d : Due) (ns : List ℕ) → GotNumber bytes at w v behind d → P d behind ns → P (Next w) at (v ∷ ns)) where
+  holds-at-end : (at count n : ℕ) → endOf (length bytes) at count ≡ Listing n → P End at []
+  unfolding endOf
+  holds-at-end at count n e =
+      ⊎-elim (λ p. never (let z : _≡_ {A = ℕ} 0 1 = cc (p .1) in z)) (λ p. end at (ltb-false at (length bytes) (p .0))) (either (ltb at (length bytes)) _ _ (Listing n) e)
 
-stands-end : (bytes : List ℕ) (at count n : ℕ) → endOf (length bytes) at count ≡ Listing n → Stands bytes End at []
-unfolding endOf bytesOf foldOf
-stands-end bytes at count n e =
-    ⊎-elim (λ p. never (let z : _≡_ {A = ℕ} 0 1 = cc (p .1) in z))
-    (λ p. record { stand = drop-of-length-le bytes (ltb-false at (length bytes) (p .0)); ends = refl })
-    (either (ltb at (length bytes)) _ _ (Listing n) e)
+  holds-then : (g : Got) (at count n : ℕ) (w : Wanted) (ns : Due → ℕ → List ℕ) (ts : Due → ℕ → ℕ → Taken) → gotOf bytes at w ≡ g
+      → ((d : Due) (a m : ℕ) → ts d a m ≡ Listing n → P d a (ns d a)) → takenThen g count ts ≡ Listing n → P (Next w) at (numbersThen g ns)
+  unfolding takenThen numbersThen
+  holds-then (Took v behind d) at count n w ns ts e h p = more at w v behind d (ns d behind) (got-found bytes at w (readOf bytes at) v behind d refl e) (h d behind (count + 1) p)
+  holds-then (Bad k place) at count n w ns ts e h p = never cc
 
-module _ (bytes : List ℕ) (below : (i : ℕ) → getD bytes i 0 < 256) where
-  stands-then : (g : Got) (at count n : ℕ) (w : Wanted) (ns : Due → ℕ → List ℕ) (ts : Due → ℕ → ℕ → Taken) → gotOf bytes at w ≡ g
-      → ((d : Due) (a m : ℕ) → ts d a m ≡ Listing n → Stands bytes d a (ns d a)) → takenThen g count ts ≡ Listing n → Stands bytes (Next w) at (numbersThen g ns)
-  unfolding takenThen numbersThen bytesOf foldOf
-  stands-then (Took v behind d) at count n w ns ts e h p =
-      let got : GotNumber bytes at w v behind d = got-found bytes at w (readOf bytes at) v behind d refl e in
-      let number : Encoded bytes at v behind = encoded-read bytes at v behind below (got .found) in
-      let rest : Stands bytes d behind (ns d behind) = h d behind (count + 1) p in
-      record {
-        stand = number .stands ∙ ap (λ (l : List ℕ). encodeOf v ++ l) (rest .stand);
-        ends = ap (λ (x : Due). foldOf x (ns d behind)) (got .due) ∙ rest .ends;
-      }
-  stands-then (Bad k place) at count n w ns ts e h p = never cc
-
-  stands : (fuel : ℕ) (due : Due) (at count n : ℕ) → takenFrom fuel bytes due at count ≡ Listing n → Stands bytes due at (numbersFrom fuel bytes due at)
+  holds-from : (fuel : ℕ) (due : Due) (at count n : ℕ) → takenFrom fuel bytes due at count ≡ Listing n → P due at (numbersFrom fuel bytes due at)
   unfolding takenFrom numbersFrom
-  stands zero due at count n e = never cc
-  stands (suc fuel) (Next w) at count n e =
-      stands-then (gotOf bytes at w) at count n w (numbersFrom fuel bytes) (takenFrom fuel bytes) refl (λ d a m. stands fuel d a m n) e
-  stands (suc fuel) End at count n e = stands-end bytes at count n e
-  stands (suc fuel) (Refused k) at count n e = never cc
+  holds-from zero due at count n e = never cc
+  holds-from (suc fuel) (Next w) at count n e =
+      holds-then (gotOf bytes at w) at count n w (numbersFrom fuel bytes) (takenFrom fuel bytes) refl (λ d a m. holds-from fuel d a m n) e
+  holds-from (suc fuel) End at count n e = holds-at-end at count n e
+  holds-from (suc fuel) (Refused k) at count n e = never cc
 
-  -- a packet that is taken is the bytes of its numbers, and the grammar takes these to its end
-  pub taken-bytes : (n : ℕ) → takenOf bytes ≡ Listing n → (bytes ≡ bytesOf (numbersIn bytes)) × (foldOf (Next Edition) (numbersIn bytes) ≡ End)
+  holds-of-taken : (n : ℕ) → takenOf bytes ≡ Listing n → P (Next Edition) 0 (numbersIn bytes)
   unfolding takenOf numbersIn
-  taken-bytes n e =
-      ⊎-elim (λ p. never (let z : _≡_ {A = ℕ} 0 1 = cc (p .1) in z))
-      (λ p. let s : Stands bytes (Next Edition) 0 (numbersFrom (length bytes + 1) bytes (Next Edition) 0) = stands (length bytes + 1) (Next Edition) 0 0 n (p .1) in (s .stand, s .ends))
+  holds-of-taken n e =
+      ⊎-elim (λ p. never (let z : _≡_ {A = ℕ} 0 1 = cc (p .1) in z)) (λ p. holds-from (length bytes + 1) (Next Edition) 0 0 n (p .1))
       (either (ltb BYTES (length bytes)) _ _ (Listing n) e)
+
+-- the grammar takes the numbers of a packet that is taken to its end
+pub taken-ends : (bytes : List ℕ) (n : ℕ) → takenOf bytes ≡ Listing n → foldOf (Next Edition) (numbersIn bytes) ≡ End
+unfolding foldOf
+taken-ends bytes =
+    holds-of-taken bytes (λ due at ns. foldOf due ns ≡ End) (λ at h. refl) (λ at w v behind d ns got ends. ap (λ (x : Due). foldOf x ns) (got .due) ∙ ends)
+
+-- and the packet is the bytes of its numbers
+pub taken-bytes : (bytes : List ℕ) → ((i : ℕ) → getD bytes i 0 < 256) → (n : ℕ) → takenOf bytes ≡ Listing n → bytes ≡ bytesOf (numbersIn bytes)
+unfolding bytesOf
+taken-bytes bytes below =
+    holds-of-taken bytes (λ due at ns. drop at bytes ≡ bytesOf ns) (λ at. drop-of-length-le bytes)
+    (λ at w v behind d ns got stand. encoded-read bytes at v behind below (got .found) .stands ∙ ap (λ (l : List ℕ). encodeOf v ++ l) stand)
 
 -- the other way: numbers that the grammar takes to its end, whose bytes stand there to the end
 -- the reader's answer is a listing of these numbers

@@ -1,11 +1,11 @@
--- The reading of an item: its number, and behind it the operands that the number asks for. `item-again`: it is made again from its row, so that no row is two items'.
+-- The reading of an item: its number, and behind it the operands that the number asks for. `item-again`: it is made again from its row, so that no row is two items'. `item-size`: its number says how long the row is.
 use Prim.Native.Nat.{ℕ, _≤_, _<_}
 use native.Mathlib.Omega.{arith}
 use native.Mathlib.Decide.{ℕ-discrete}
 use mathlib.Core.Path.{_≡_, refl, sym, ap, subst, _∙_}
 use mathlib.Core.Bool.{Bool, true, false}
 use mathlib.Core.List.{List, [], _∷_, _++_, append-cancel-left}
-use lib.ListN.{getD}
+use lib.ListN.{length, getD}
 use lib.Dec.{ltb, eqb}
 use Rattle.choice.specs.Pick.{pick, is-less, not-less, not-equal, if-equal, if-less}
 use Rattle.listing.specs.declared.grammar.Wanted.the-variants.{ItemNumber, OperandLabel, BranchRegister, OperandFirst, OperandSecond, OperandThird}
@@ -15,7 +15,7 @@ use Rattle.listing.specs.declared.items.Item.{Item}
 use Rattle.listing.specs.declared.items.Item.the-variants.{Halt, Jmp, Bnz, Load, Store, Compute, ComputeImmediate, Cpush, Cjmp, Label}
 use Rattle.listing.specs.Limits.{TOP-ITEM, TOP-PART, TOP-IMMEDIATE}
 use Rattle.listing.specs.Listing.{single, itemNumbers, Within, ItemRange}
-use Rattle.listing.specs.Parts.{itemOf, itemAt}
+use Rattle.listing.specs.Parts.{numberAt, itemOf, itemAt, sizeOf}
 use Rattle.listing.specs.Grammar.{nextOf, itemsFrom, operandsFrom}
 use Rattle.listing.specs.Fold.{foldOf}
 use Rattle.listing.specs.Sorts.{Sort, Found, within-read, below-read, nothing-read, in-turn}
@@ -23,14 +23,12 @@ use Rattle.listing.specs.Sorts.{Sort, Found, within-read, below-read, no
 equal-or-not : {X : Type 0} (a b : ℕ) → (a ≡ b → X) → ((a ≡ b → ⊥) → X) → X
 equal-or-not a b p q = elim (ℕ-discrete a b) [ yes e ↦ p e | no e ↦ q e ]
 
--- behind the first five item numbers
+-- behind the first three item numbers, and the first five
+behind-three : {A : Type 0} (n : ℕ) (x₀ x₁ x₂ r x : A) → 3 ≤ n → r ≡ x → r ≡ pick (eqb n 0) x₀ (pick (eqb n 1) x₁ (pick (eqb n 2) x₂ x))
+behind-three n x₀ x₁ x₂ r x h p = not-equal n 0 _ _ _ (omega arith) (not-equal n 1 _ _ _ (omega arith) (not-equal n 2 _ _ _ (omega arith) p))
+
 operation : (n : ℕ) (x₀ x₁ x₂ x₃ x₄ i x : Item) → 5 ≤ n → i ≡ x → i ≡ pick (eqb n 0) x₀ (pick (eqb n 1) x₁ (pick (eqb n 2) x₂ (pick (eqb n 3) x₃ (pick (eqb n 4) x₄ x))))
-operation n x₀ x₁ x₂ x₃ x₄ i x h p =
-    not-equal n 0 _ _ _ (omega arith)
-    (not-equal n 1 _ _ _ (omega arith)
-    (not-equal n 2 _ _ _ (omega arith)
-    (not-equal n 3 _ _ _ (omega arith)
-    (not-equal n 4 _ _ _ (omega arith) p))))
+operation n x₀ x₁ x₂ x₃ x₄ i x h p = behind-three n _ _ _ _ _ (omega arith) (not-equal n 3 _ _ _ (omega arith) (not-equal n 4 _ _ _ (omega arith) p))
 
 -- an item is made again from its row
 pub item-again : (labels : ℕ) (i : Item) (rest : List ℕ) → ItemRange labels i → i ≡ itemAt (itemNumbers i ++ rest) 0
@@ -45,6 +43,24 @@ item-again labels (ComputeImmediate op rd rs i) rest h = operation op _ _ _ _ _ 
 item-again labels (Cpush l) rest h = refl
 item-again labels (Cjmp l) rest h = refl
 item-again labels (Label l) rest h = refl
+
+-- and its row is as long as its number says; items 3 to 14 have three operands
+four-numbers : (n : ℕ) → Within 3 14 n → 4 ≡ sizeOf n
+unfolding sizeOf
+four-numbers n h = behind-three n _ _ _ _ _ (h .0) (is-less n 15 _ _ _ (omega arith) refl)
+
+pub item-size : (labels : ℕ) (i : Item) (rest : List ℕ) → ItemRange labels i → length (itemNumbers i) ≡ sizeOf (numberAt (itemNumbers i ++ rest) 0)
+unfolding itemNumbers sizeOf pick
+item-size labels Halt rest h = refl
+item-size labels (Jmp l) rest h = refl
+item-size labels (Bnz rs l) rest h = refl
+item-size labels (Load rd rs c) rest h = refl
+item-size labels (Store rd c rs) rest h = refl
+item-size labels (Compute op rd rs rt) rest h = four-numbers op (omega arith)
+item-size labels (ComputeImmediate op rd rs i) rest h = four-numbers op (omega arith)
+item-size labels (Cpush l) rest h = refl
+item-size labels (Cjmp l) rest h = refl
+item-size labels (Label l) rest h = refl
 
 module _ (labels more : ℕ) where
   item-number-read : Sort (Next (ItemNumber labels more)) single (Within 0 TOP-ITEM) (operandsFrom labels more)
@@ -71,19 +87,11 @@ module _ (labels more : ℕ) where
   -- for items 3 to 9, and 10 to 14
   asks-parts : (n : ℕ) → Within 3 9 n → Next (OperandFirst labels more TOP-PART) ≡ operandsFrom labels more n
   unfolding operandsFrom
-  asks-parts n h =
-      not-equal n 0 _ _ _ (omega arith)
-      (not-equal n 1 _ _ _ (omega arith)
-      (not-equal n 2 _ _ _ (omega arith)
-      (is-less n 10 _ _ _ (omega arith) refl)))
+  asks-parts n h = behind-three n _ _ _ _ _ (h .0) (is-less n 10 _ _ _ (omega arith) refl)
 
   asks-immediate : (n : ℕ) → Within 10 14 n → Next (OperandFirst labels more TOP-IMMEDIATE) ≡ operandsFrom labels more n
   unfolding operandsFrom
-  asks-immediate n h =
-      not-equal n 0 _ _ _ (omega arith)
-      (not-equal n 1 _ _ _ (omega arith)
-      (not-equal n 2 _ _ _ (omega arith)
-      (not-less n 10 _ _ _ (h .0) (is-less n 15 _ _ _ (omega arith) refl))))
+  asks-immediate n h = behind-three n _ _ _ _ _ (omega arith) (not-less n 10 _ _ _ (h .0) (is-less n 15 _ _ _ (omega arith) refl))
 
   behind-number : (n : ℕ) (ns rest : List ℕ) (d : Due) → Within 0 TOP-ITEM n → d ≡ operandsFrom labels more n → foldOf d ns ≡ foldOf (itemsFrom labels more) rest
       → foldOf (Next (ItemNumber labels more)) (n ∷ ns) ≡ foldOf (itemsFrom labels more) rest

@@ -1,4 +1,4 @@
--- The parts of a listing, read off its numbers by their places. Any row of numbers has such parts: a number that is not there is 0, and no count is taken for more than its limit. PartLaws: the parts of a listing's own numbers are the listing.
+-- The parts of a listing, read off its numbers by their places. Any row of numbers has such parts: a number that is not there is 0, and no count, and no kind or level of a field or register, is taken for more than its limit. PartLaws: the parts of a listing's own numbers are the listing.
 use Prim.Native.Nat.{ℕ, zero, suc, _+_, _*_}
 use mathlib.Core.List.{List, [], _∷_}
 use lib.ListN.{getD}
@@ -6,7 +6,7 @@ use lib.Dec.{ltb, eqb}
 use Rattle.choice.specs.Pick.{pick}
 use Rattle.listing.specs.declared.items.Item.{Item}
 use Rattle.listing.specs.declared.items.Item.the-variants.{Halt, Jmp, Bnz, Load, Store, Compute, ComputeImmediate, Cpush, Cjmp, Label}
-use Rattle.listing.specs.Limits.{SHAPES, FIELDS, LABELS, STACK, REGISTERS, ITEMS}
+use Rattle.listing.specs.Limits.{SHAPES, FIELDS, LABELS, STACK, REGISTERS, ITEMS, TOP-LEVEL}
 use Rattle.listing.specs.Listing.{Field, Register, LabelContext, Listing}
 
 -- n parts one behind the other: each is read at its place, and `next` is the place behind it
@@ -19,7 +19,7 @@ unfoldable pub behind : (ℕ → ℕ) → ℕ → ℕ → ℕ
 behind next at zero = at
 behind next at (suc n) = behind next (next at) n
 
--- a number, and a count with its limit
+-- a number; and a count, kind or level, held to its limit
 abbrev pub numberAt : List ℕ → ℕ → ℕ
 numberAt ns at = getD ns at 0
 
@@ -31,7 +31,7 @@ countAt limit ns at = countOf limit (numberAt ns at)
 
 -- a field and a shape
 abbrev pub fieldAt : List ℕ → ℕ → Field
-fieldAt ns at = record { kind = numberAt ns at; level = numberAt ns (at + 1) }
+fieldAt ns at = record { kind = countAt SHAPES ns at; level = countAt TOP-LEVEL ns (at + 1) }
 
 abbrev pub shapeAt : List ℕ → ℕ → List Field
 shapeAt ns at = partsFrom (fieldAt ns) (λ p. p + 2) (at + 1) (countAt FIELDS ns at)
@@ -41,7 +41,7 @@ behindShape ns at = at + 1 + 2 * countAt FIELDS ns at
 
 -- a register and a label's context; its registers' count stands behind its stack
 abbrev pub registerAt : List ℕ → ℕ → Register
-registerAt ns at = record { index = numberAt ns at; kind = numberAt ns (at + 1); level = numberAt ns (at + 2) }
+registerAt ns at = record { index = numberAt ns at; kind = countAt SHAPES ns (at + 1); level = countAt TOP-LEVEL ns (at + 2) }
 
 abbrev pub stackAt : List ℕ → ℕ → List ℕ
 stackAt ns at = partsFrom (numberAt ns) (λ p. p + 1) (at + 2) (countAt STACK ns (at + 1))

@@ -1,19 +1,20 @@
--- The reader's theorems, in the packet's own terms. A packet that is taken is the bytes of exactly one listing within 01's ranges; the bytes of any such listing are taken and give it back, where they are not over the packet limit; a refusal names the first fault.
+-- The reader's theorems, in the packet's own terms. A packet that is taken is the bytes of exactly one listing within 01's ranges, the one that `listingIn` reads off its numbers; the bytes of any such listing are taken and give it back, where they are not over the packet limit; a refusal names the first fault.
 use Prim.Native.Nat.{ℕ, _<_, _≤_}
-use mathlib.Core.Path.{_≡_, sym, ap, _∙_}
+use mathlib.Core.Path.{_≡_, sym, ap, subst, _∙_}
 use mathlib.Core.List.{List}
 use lib.ListN.{length, getD}
 use Rattle.listing.specs.declared.grammar.Wanted.the-variants.{Edition}
-use Rattle.listing.specs.declared.grammar.Due.the-variants.{Next, End}
+use Rattle.listing.specs.declared.grammar.Due.the-variants.{Next}
 use Rattle.listing.specs.declared.reading.Taken.the-variants as taken
 use Rattle.listing.specs.Limits.{BYTES}
 use Rattle.listing.specs.Listing.{Listing, numbersOf, Ranges}
-use Rattle.listing.specs.Fold.{foldOf}
+use Rattle.listing.specs.Parts.{listingIn}
+use Rattle.listing.specs.PartLaws.{listing-back}
 use Rattle.listing.specs.ListingLaws.{listing-taken, taken-listing, numbers-injective}
 use Rattle.listing.specs.RangeLaws.{numbers-fit}
 use Rattle.listing.specs.Packet.{numbersIn, takenOf}
 use Rattle.listing.specs.Bytes.{bytesOf, packetBytes}
-use Rattle.listing.specs.ByteLaws.{taken-bytes, bytes-taken}
+use Rattle.listing.specs.ByteLaws.{taken-ends, taken-bytes, bytes-taken}
 use Rattle.listing.specs.FaultLaws.{FirstFault, fault-is-first}
 
 -- the bytes of a listing within the ranges are taken, and their numbers are the listing's
@@ -21,14 +22,28 @@ pub listing-is-taken : (l : Listing) → Ranges l → length (packetBytes l) ≤
 unfolding packetBytes
 listing-is-taken l r h = bytes-taken (numbersOf l) (numbers-fit l r) (listing-taken l r) h
 
--- a packet that is taken is the packet of a listing within the ranges, whose numbers it has
+-- the parts of a listing's packet are the listing
+pub packet-read : (l : Listing) → Ranges l → length (packetBytes l) ≤ BYTES → listingIn (numbersIn (packetBytes l)) ≡ l
+packet-read l r h = ap listingIn (listing-is-taken l r h .1) ∙ listing-back l r
+
+-- the parts of a packet that is taken are a listing within the ranges, with the packet's numbers
+pub taken-is-listed : (bytes : List ℕ) (n : ℕ) → takenOf bytes ≡ taken.Listing n → Ranges (listingIn (numbersIn bytes)) × (numbersOf (listingIn (numbersIn bytes)) ≡ numbersIn bytes)
+taken-is-listed bytes n e =
+    let found : (l : Listing) × Ranges l × (numbersOf l ≡ numbersIn bytes) = taken-listing (numbersIn bytes) (taken-ends bytes n e) in
+    let same : found .0 ≡ listingIn (numbersIn bytes) = sym (listing-back (found .0) (found .1)) ∙ ap listingIn (found .2) in
+    subst (λ (l : Listing). Ranges l × (numbersOf l ≡ numbersIn bytes)) same (found .1, found .2)
+
+-- a packet that is taken is the packet of its parts
+pub packet-is-listing : (bytes : List ℕ) → ((i : ℕ) → getD bytes i 0 < 256) → (n : ℕ) → takenOf bytes ≡ taken.Listing n → bytes ≡ packetBytes (listingIn (numbersIn bytes))
+unfolding packetBytes
+packet-is-listing bytes below n e = taken-bytes bytes below n e ∙ ap bytesOf (sym (taken-is-listed bytes n e .1))
+
+-- so it is the packet of a listing within the ranges, whose numbers it has
 pub taken-is-listing : (bytes : List ℕ) → ((i : ℕ) → getD bytes i 0 < 256) → (n : ℕ) → takenOf bytes ≡ taken.Listing n
     → (l : Listing) × Ranges l × (bytes ≡ packetBytes l) × (numbersIn bytes ≡ numbersOf l)
-unfolding packetBytes
 taken-is-listing bytes below n e =
-    let t : (bytes ≡ bytesOf (numbersIn bytes)) × (foldOf (Next Edition) (numbersIn bytes) ≡ End) = taken-bytes bytes below n e in
-    let found : (l : Listing) × Ranges l × (numbersOf l ≡ numbersIn bytes) = taken-listing (numbersIn bytes) (t .1) in
-    (found .0, found .1, t .0 ∙ ap bytesOf (sym (found .2)), sym (found .2))
+    let listed : Ranges (listingIn (numbersIn bytes)) × (numbersOf (listingIn (numbersIn bytes)) ≡ numbersIn bytes) = taken-is-listed bytes n e in
+    (listingIn (numbersIn bytes), listed .0, packet-is-listing bytes below n e, sym (listed .1))
 
 -- and of one listing only
 pub listing-is-one : (l l′ : Listing) → Ranges l → Ranges l′ → length (packetBytes l) ≤ BYTES → packetBytes l ≡ packetBytes l′ → l ≡ l′
