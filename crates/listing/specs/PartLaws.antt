@@ -1,5 +1,5 @@
 -- The parts of a listing's own numbers are the listing (`listing-back`). One law serves every part: where a row of numbers goes on with the numbers of a value, the value is read there again, and behind its place the rest stands. It is shown of single parts, of lists behind their counts, and so of the listing.
-use Prim.Native.Nat.{ℕ, zero, suc, _+_, _*_, _≤_}
+use Prim.Native.Nat.{ℕ, zero, suc, _+_, _-_, _*_, _<_, _≤_}
 use native.Mathlib.Nat.{add-zero}
 use native.Mathlib.Omega.{arith}
 use mathlib.Core.Path.{_≡_, refl, sym, ap, _∙_}
@@ -11,6 +11,21 @@ use Rattle.listing.specs.Limits.{SHAPES, FIELDS, LABELS, STACK, REGISTER
 use Rattle.listing.specs.Listing.{Listing, counted, single, fieldNumbers, registerNumbers, labelNumbers, itemNumbers, numbersOf, EachAfter, ShapeRange, RegisterRange, FieldRange, LabelRange, ItemRange, Ranges}
 use Rattle.listing.specs.Parts.{partsFrom, behind, numberAt, countOf, countAt, fieldAt, shapeAt, behindShape, registerAt, registersPlace, labelAt, behindLabel, itemOf, itemAt, sizeOf, behindItem, labelsPlace, itemsPlace, shapesIn, labelsIn, itemsIn, listingIn}
 use Rattle.listing.specs.ItemLaws.{item-again, item-size}
+
+-- a row of parts, part by part
+module _ {A : Type 0} (part : ℕ → A) (next : ℕ → ℕ) (at n : ℕ) where
+  pub parts-more : 0 < n → partsFrom part next at n ≡ part at ∷ partsFrom part next (next at) (n - 1)
+  unfolding partsFrom
+  parts-more h = let one : n ≡ suc (n - 1) = omega arith in ap (partsFrom part next at) one
+
+  pub parts-none : n ≤ 0 → partsFrom part next at n ≡ []
+  unfolding partsFrom
+  parts-none h = let none : n ≡ 0 = omega arith in ap (partsFrom part next at) none
+
+pub parts-length : {A : Type 0} (part : ℕ → A) (next : ℕ → ℕ) (at n : ℕ) → length (partsFrom part next at n) ≡ n
+unfolding partsFrom
+parts-length part next at zero = refl
+parts-length part next at (suc n) = ap suc (parts-length part next (next at) n)
 
 -- a number within its limit is taken as it is
 within-kept : (limit : ℕ) {m n : ℕ} → m ≡ n → n ≤ limit → countOf limit m ≡ n

@@ -1,5 +1,6 @@
 // The items of a listing, read off its numbers.
 ghost use mathlib.Core.Path.{_≡_};
+ghost use Prim.Native.Nat.{_≤_};
 ghost use lib.ListN.{getD};
 ghost use Rattle.listing.specs.Parts.{itemOf, itemAt, sizeOf, countOf};
 
@@ -35,6 +36,7 @@ pub fn number_at(numbers: &[u32], at: usize) -> u32
 // A count, or its limit where that is less.
 pub fn at_most(limit: u32, n: u32) -> u32
     ensures { λ r. ⌜ r ≡ countOf limit n ⌝ }
+    ensures held { λ r. ⌜ r ≤ limit ⌝ }
 {
     if limit < n { limit } else { n }
 }

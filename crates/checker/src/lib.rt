@@ -1,0 +1,5 @@
+// The SIF checker: any packet comes in; that it is accepted, or the first fault with its number and
+// place, comes out. Read specs/Rules.antt first.
+mod contexts;
+pub mod numbers;
+mod walk;
