@@ -2,4 +2,5 @@
 // place, comes out. Read specs/Rules.antt first.
 mod contexts;
 pub mod numbers;
+mod tables;
 mod walk;

@@ -7,6 +7,7 @@ pub mod PacketLaws  -- one law for each way through the code of the reader
 pub mod TakenLaws  -- what the reader leaves in a buffer, by the packet alone
 pub mod Listing  -- a listing as data, its numbers and its ranges
 pub mod Parts  -- the parts of a listing, read off its numbers
+pub mod PlaceLaws  -- where the parts stand, for the proofs of code
 pub mod Fold  -- what is due after a row of numbers
 pub mod Sorts  -- how the grammar reads the values of a sort
 pub mod ItemLaws  -- the reading of an item

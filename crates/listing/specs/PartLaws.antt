@@ -33,7 +33,7 @@ unfolding countOf
 within-kept limit {n = n} e h = ap (countOf limit) e ∙ sym (not-less limit n _ _ _ h refl)
 
 -- the place behind n parts that are all of one size
-behind-equal : (size at n : ℕ) → behind (λ p. p + size) at n ≡ at + size * n
+pub behind-equal : (size at n : ℕ) → behind (λ p. p + size) at n ≡ at + size * n
 unfolding behind
 behind-equal size at zero = omega arith
 behind-equal size at (suc n) = behind-equal size (at + size) n ∙ omega arith

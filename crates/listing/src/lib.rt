@@ -3,6 +3,7 @@
 mod grammar;
 mod items;
 pub mod limits;
+mod places;
 mod reading;
 
 pub use grammar::Due;
@@ -13,5 +14,11 @@ pub use items::at_most;
 pub use items::item_at;
 pub use items::item_size;
 pub use items::number_at;
+pub use places::behind_item;
+pub use places::behind_label;
+pub use places::behind_shape;
+pub use places::count_at;
+pub use places::items_place;
+pub use places::labels_place;
 pub use reading::Taken;
 pub use reading::read;
