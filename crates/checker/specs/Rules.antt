@@ -50,18 +50,33 @@ module _ (_⊑_ : ℕ → ℕ → Bool) (_⊔_ : ℕ → ℕ → ℕ) where
       let s = slotAt (Γ .registers) rs in
       (NOT-LISTED unless s .listed) ∷ (WRONG-SORT unless eqb (s .kind) INTEGER) ∷ jumpRow (Γ .level ⊔ s .level) Γ t
 
-  -- fields are those of the shape that rs points to
-  abbrev pub loadRow : Context → ℕ → ℕ → ℕ → List (List Field) → List Premise
-  loadRow Γ rd rs c shapes =
-      let d = slotAt (Γ .registers) rd in
-      let s = slotAt (Γ .registers) rs in
+  -- load, by what is said of rd and rs, whether the shape has the field, and the field's level
+  abbrev pub loadPremises : ℕ → ℕ → Slot → Slot → Bool → ℕ → List Premise
+  loadPremises l rd d s has lc =
       (WRITES-R0 unless ltb 0 rd)
       ∷ (NOT-LISTED unless d .listed)
       ∷ (NOT-LISTED unless s .listed)
       ∷ (WRONG-SORT unless ltb INTEGER (s .kind))
-      ∷ (NO-FIELD unless ltb c (length (fieldsOf shapes (s .kind))))
-      ∷ (LEVEL-RULE unless Γ .level ⊔ s .level ⊑ fieldOf shapes (s .kind) c .level)
-      ∷ (LEVEL-RULE unless fieldOf shapes (s .kind) c .level ⊑ d .level)
+      ∷ (NO-FIELD unless has)
+      ∷ (LEVEL-RULE unless l ⊔ s .level ⊑ lc)
+      ∷ (LEVEL-RULE unless lc ⊑ d .level)
+      ∷ []
+
+  abbrev pub loadRow : Context → ℕ → ℕ → ℕ → List (List Field) → List Premise
+  loadRow Γ rd rs c shapes =
+      let d = slotAt (Γ .registers) rd in
+      let s = slotAt (Γ .registers) rs in
+      loadPremises (Γ .level) rd d s (ltb c (length (fieldsOf shapes (s .kind)))) (fieldOf shapes (s .kind) c .level)
+
+  -- store, by the same and the field's kind
+  abbrev pub storePremises : ℕ → Slot → Slot → Bool → ℕ → ℕ → List Premise
+  storePremises l d s has ω lc =
+      (NOT-LISTED unless d .listed)
+      ∷ (NOT-LISTED unless s .listed)
+      ∷ (WRONG-SORT unless ltb INTEGER (d .kind))
+      ∷ (NO-FIELD unless has)
+      ∷ (NOT-THE-FIELD unless exactly s ω lc)
+      ∷ (LEVEL-RULE unless l ⊔ d .level ⊑ lc)
       ∷ []
 
   abbrev pub storeRow : Context → ℕ → ℕ → ℕ → List (List Field) → List Premise
@@ -69,13 +84,7 @@ module _ (_⊑_ : ℕ → ℕ → Bool) (_⊔_ : ℕ → ℕ → ℕ) where
       let d = slotAt (Γ .registers) rd in
       let s = slotAt (Γ .registers) rs in
       let f = fieldOf shapes (d .kind) c in
-      (NOT-LISTED unless d .listed)
-      ∷ (NOT-LISTED unless s .listed)
-      ∷ (WRONG-SORT unless ltb INTEGER (d .kind))
-      ∷ (NO-FIELD unless ltb c (length (fieldsOf shapes (d .kind))))
-      ∷ (NOT-THE-FIELD unless exactly s (f .kind) (f .level))
-      ∷ (LEVEL-RULE unless Γ .level ⊔ d .level ⊑ f .level)
-      ∷ []
+      storePremises (Γ .level) d s (ltb c (length (fieldsOf shapes (d .kind)))) (f .kind) (f .level)
 
   abbrev pub computeRow : Context → ℕ → ℕ → ℕ → List Premise
   computeRow Γ rd rs rt =

@@ -2,5 +2,6 @@
 // place, comes out. Read specs/Rules.antt first.
 mod contexts;
 pub mod numbers;
+mod rules;
 mod tables;
 mod walk;
