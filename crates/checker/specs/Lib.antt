@@ -9,3 +9,10 @@ pub mod HeldLaws  -- for the proofs of its code
 pub mod Tables  -- where the parts of a listing begin
 pub mod RowLaws  -- a row of premises, premise by premise, for the proofs of the code of the rules
 pub mod WalkLaws  -- for the proofs of the code of the walk
+pub mod Refusal  -- what a refusal says: the first place at which a premise fails, and the table's order there
+pub mod RefusalLaws  -- a refusal is the first, and a listing is accepted where every premise holds
+pub mod TestLaws  -- the tests of a row of premises are equations of the judgement
+pub mod PlacedLaws  -- each label is placed once, by the array of placed labels
+pub mod TypingLaws  -- the premises of an item are those of its rule
+pub mod AcceptedLaws  -- a walk whose every premise holds is a derivation
+pub mod Theorems  -- a listing is accepted exactly where it is well typed, and a refusal is the first

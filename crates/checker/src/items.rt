@@ -1,0 +1,118 @@
+// One item in an open block: its first refusal, and the context behind it.
+use crate::contexts::Held;
+use crate::contexts::Slot;
+use crate::contexts::enter;
+use crate::contexts::push;
+use crate::contexts::slot_at;
+use crate::contexts::with_slot;
+use crate::rules::bnz;
+use crate::rules::cjmp;
+use crate::rules::compute;
+use crate::rules::compute_immediate;
+use crate::rules::cpush;
+use crate::rules::halt;
+use crate::rules::jump;
+use crate::rules::load;
+use crate::rules::store;
+use crate::tables::field_kind;
+use crate::tables::label_place;
+use crate::tables::shape_place;
+use levels::join;
+use listing::Item;
+ghost use mathlib.Core.Path.{_≡_};
+ghost use Prim.Native.Nat.{_≤_, _<_};
+ghost use mathlib.Core.List.{_∷_};
+ghost use lib.ListN.{length, set};
+ghost use Rattle.levels.specs.Sets.{belowOf, joinOf};
+ghost use Rattle.listing.specs.Limits.{BYTES, STACK};
+ghost use Rattle.listing.specs.Parts.{shapesIn, labelsIn};
+ghost use Rattle.checker.specs.Context.{INTEGER, typed, contextOf, slotAt, fieldOf};
+ghost use Rattle.checker.specs.Rules.{firstFailing, rowOf, afterOf};
+ghost use Rattle.checker.specs.Held.{stackIn, contextIn};
+ghost use Rattle.checker.specs.Tables.{shapeTable, labelTable};
+
+// The first refusal of an item, 0 for none; a label is fallen into.
+pub fn rule(c: Held, item: Item, numbers: &[u32], shapes: &[u32; 64], labels: &[u32; 128]) -> u8
+    requires { ⌜ length (now numbers) ≤ BYTES ⌝ }
+    requires { ⌜ now shapes ≡ shapeTable (now numbers) ⌝ }
+    requires { ⌜ now labels ≡ labelTable (now numbers) ⌝ }
+    ensures { λ r. ⌜ r ≡ firstFailing (rowOf belowOf joinOf (shapesIn (now (numbers .entry))) (labelsIn (now (numbers .entry))) (contextIn c) item) ⌝ }
+{
+    match item {
+        Item::Halt => halt(c),
+        Item::Jmp(l) => jump(c.level, c, numbers, label_place(numbers, labels, l)),
+        Item::Bnz(rs, l) => bnz(c, rs, numbers, label_place(numbers, labels, l)),
+        Item::Load(rd, rs, field) => load(c, rd, rs, field, numbers, shapes),
+        Item::Store(rd, field, rs) => store(c, rd, field, rs, numbers, shapes),
+        Item::Compute(_, rd, rs, rt) => compute(c, rd, rs, rt),
+        Item::ComputeImmediate(_, rd, rs, _) => compute_immediate(c, rd, rs),
+        Item::Cpush(l) => cpush(c, numbers, label_place(numbers, labels, l)),
+        Item::Cjmp(l) => cjmp(c, l, numbers, label_place(numbers, labels, l)),
+        Item::Label(l) => jump(c.level, c, numbers, label_place(numbers, labels, l)),
+    }
+}
+
+// The context with its pc level raised by a register's.
+fn raised(c: Held, rs: u32) -> Held
+    ensures { λ r. ⌜ contextIn r ≡ contextOf (joinOf (c .level) (slotAt (c .registers) rs .level)) (stackIn (c .stack)) (c .registers) ⌝ }
+{
+    let stack = c.stack;
+    let registers = c.registers;
+    let s = slot_at(registers, rs);
+    Held { level: join(c.level, s.level as u32), stack, registers }
+}
+
+// The context with another kind of a register; its level stays.
+fn changed(c: Held, rd: u32, kind: u8) -> Held
+    ensures { λ r. ⌜ contextIn r ≡ contextOf (c .level) (stackIn (c .stack)) (set (c .registers) rd (typed kind (slotAt (c .registers) rd .level))) ⌝ }
+{
+    let stack = c.stack;
+    let registers = c.registers;
+    let d = slot_at(registers, rd);
+    let after = with_slot(registers, rd, Slot { listed: true, kind, level: d.level });
+    Held { level: c.level, stack, registers: after }
+}
+
+// The kind of the field that rs points to.
+fn loaded_kind(c: Held, rs: u32, field: u32, numbers: &[u32], shapes: &[u32; 64]) -> u8
+    requires { ⌜ length (now numbers) ≤ BYTES ⌝ }
+    requires { ⌜ now shapes ≡ shapeTable (now numbers) ⌝ }
+    ensures { λ r. ⌜ r ≡ fieldOf (shapesIn (now (numbers .entry))) (slotAt (c .registers) rs .kind) field .kind ⌝ }
+{
+    let registers = c.registers;
+    let s = slot_at(registers, rs);
+    field_kind(numbers, shape_place(numbers, shapes, s.kind), field)
+}
+
+// The context with a label on top of its stack.
+fn pushed(c: Held, l: u32) -> Held
+    requires { ⌜ length (stackIn (c .stack)) < STACK ⌝ }
+    ensures { λ r. ⌜ contextIn r ≡ contextOf (c .level) (l ∷ stackIn (c .stack)) (c .registers) ⌝ }
+{
+    let stack = c.stack;
+    let registers = c.registers;
+    let after = push(stack, l);
+    Held { level: c.level, stack: after, registers }
+}
+
+// The context behind an item that is not refused.
+pub fn held_after(c: Held, item: Item, numbers: &[u32], shapes: &[u32; 64], labels: &[u32; 128]) -> Held
+    requires { ⌜ length (now numbers) ≤ BYTES ⌝ }
+    requires { ⌜ now shapes ≡ shapeTable (now numbers) ⌝ }
+    requires { ⌜ now labels ≡ labelTable (now numbers) ⌝ }
+    requires { ⌜ firstFailing (rowOf belowOf joinOf (shapesIn (now numbers)) (labelsIn (now numbers)) (contextIn c) item) ≡ 0 ⌝ }
+    ensures { λ r. ⌜ contextIn r ≡ afterOf belowOf joinOf (shapesIn (now (numbers .entry))) (labelsIn (now (numbers .entry))) (contextIn c) item ⌝ }
+{
+    match item {
+        Item::Halt => c,
+        Item::Jmp(_) => c,
+        Item::Bnz(rs, _) => raised(c, rs),
+        Item::Load(rd, rs, field) => changed(c, rd, loaded_kind(c, rs, field, numbers, shapes)),
+        Item::Store(_, _, _) => c,
+        Item::Compute(_, rd, _, _) => changed(c, rd, 0),
+        Item::ComputeImmediate(_, rd, _, _) => changed(c, rd, 0),
+        Item::Cpush(l) => pushed(c, l),
+        Item::Cjmp(_) => c,
+        Item::Label(l) => enter(numbers, label_place(numbers, labels, l)),
+    }
+}
