@@ -11,8 +11,8 @@ use Rattle.listing.specs.declared.items.Item.{Item}
 use Rattle.listing.specs.declared.items.Item.the-variants.{Halt, Jmp, Bnz, Load, Store, Compute, ComputeImmediate, Cpush, Cjmp, Label}
 use Rattle.listing.specs.Limits.{LABELS}
 use Rattle.listing.specs.Listing.{Field, LabelContext, Listing, Each, ItemRange, Ranges}
-use Rattle.checker.specs.declared.walk.Block.the-variants.{Start}
-use Rattle.checker.specs.Rules.{targetOf}
+use Rattle.checker.specs.declared.blocks.Block.the-variants.{Start}
+use Rattle.checker.specs.Context.{targetOf}
 use Rattle.checker.specs.Walk.{accepted, labelIn, blockAfter, walkOf}
 use Rattle.checker.specs.Judgement.{due, Typed, T-Eof, T-Due, WellTyped}
 use Rattle.checker.specs.Refusal.{Holds, State, start, behind, reached, rowAt, AllHold}
@@ -63,7 +63,7 @@ module _ (_⊑_ : ℕ → ℕ → Bool) (_⊔_ : ℕ → ℕ → ℕ) (shapes : 
 
   -- a listing begins with a label
   first-label : (items : List Item) → 0 < length items → Begins _⊑_ _⊔_ shapes labels Start items → Typed _⊑_ _⊔_ shapes labels due items
-      → (first : ℕ) × (rest : List Item) × (items ≡ Label first ∷ rest) × (targetOf _⊑_ _⊔_ shapes labels first .stack ≡ [])
+      → (first : ℕ) × (rest : List Item) × (items ≡ Label first ∷ rest) × (targetOf labels first .stack ≡ [])
   unfolding labelIn
   first-label items z e T-Eof = absurd (omega arith)
   first-label items z e (T-Due l P t) = (l, P, refl, e)

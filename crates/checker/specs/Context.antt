@@ -53,6 +53,10 @@ entered t = contextOf (t .level) (t .stack) (withListed noRegisters (t .register
 abbrev pub nowhere : LabelContext
 nowhere = record { level = 0; stack = []; registers = [] }
 
+-- Σ(L): the context of a label
+abbrev pub targetOf : List LabelContext → ℕ → LabelContext
+targetOf labels l = getD labels l nowhere
+
 -- both of two tests
 abbrev pub both : Bool → Bool → Bool
 both a b = pick a b false

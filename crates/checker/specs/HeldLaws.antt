@@ -12,7 +12,7 @@ use borrow.Author.Tests.{ltb-false}
 use Rattle.choice.specs.Pick.{pick, is-true, is-false, is-equal, not-equal, each-way}
 use Rattle.listing.specs.Limits.{STACK, SHAPES, TOP-LEVEL}
 use Rattle.listing.specs.Listing.{Register}
-use Rattle.listing.specs.Parts.{partsFrom, numberAt, countOf, registerAt}
+use Rattle.listing.specs.Parts.{partsFrom, numberAt, countOf, registerAt, labelAt}
 use Rattle.listing.specs.PartLaws.{parts-more, parts-none, parts-length}
 use Rattle.checker.specs.declared.contexts.Slot.{Slot}
 use Rattle.checker.specs.Context.{typed, slotAt, slotOf, meets, metOf, sameOf, withListed}
@@ -150,7 +150,11 @@ module _ (ns : List ℕ) (at left v p : ℕ) (held : left ≡ countOf STACK v) (
   pub none-pushed : left ≤ countOf STACK (numberAt ns p)
   none-pushed = omega (arith, all-left)
 
-pub ruleset pushings = (refl, stack-room, stack-turn, stack-all, stack-none, none-pushed)
+-- how many labels a label's stack has
+pub label-depth : (ns : List ℕ) (place k v : ℕ) → k ≡ countOf STACK v → v ≡ numberAt ns (place + 1) → k ≡ length (labelAt ns place .stack)
+label-depth ns place k v p q = p ∙ ap (countOf STACK) q ∙ sym (parts-length (numberAt ns) (λ p. p + 1) (place + 2) (countOf STACK (numberAt ns (place + 1))))
+
+pub ruleset pushings = (refl, stack-room, stack-turn, stack-all, stack-none, none-pushed, label-depth)
 
 pub ruleset sames = (refl, same-turn, same-differs, same-short, same-long, same-all)
 

@@ -75,7 +75,7 @@ module _ (_⊑_ : ℕ → ℕ → Bool) (_⊔_ : ℕ → ℕ → ℕ) where
   -- an item that is no label, and places none
   pub record Plain (i : Item) : Type 0 where
     pub no-label : isLabel i ≡ false
-    pub places-none : (k : ℕ) (P : List Item) → placings _⊑_ _⊔_ k (i ∷ P) ≡ placings _⊑_ _⊔_ k P
+    pub places-none : (k : ℕ) (P : List Item) → placings k (i ∷ P) ≡ placings k P
 
   -- what holds of a label and of a plain item holds of every item
   pub by-label : (Q : Item → Type 0) → ((l : ℕ) → Q (Label l)) → ((i : Item) → Plain i → Q i) → (i : Item) → Q i
@@ -93,7 +93,7 @@ module _ (_⊑_ : ℕ → ℕ → Bool) (_⊔_ : ℕ → ℕ → ℕ) where
 
   -- of n labels, each is placed as often as it is still to be placed
   abbrev pub Owed : ℕ → List Bool → List Item → Type 0
-  Owed n placed P = (k : ℕ) → k < n → placings _⊑_ _⊔_ k P ≡ toPlace (getD placed k false)
+  Owed n placed P = (k : ℕ) → k < n → placings k P ≡ toPlace (getD placed k false)
 
   pub placed-end : (n : ℕ) (placed : List Bool) → (allFrom placed 0 n ≡ true) ↔ Owed n placed []
   unfolding placings
@@ -103,11 +103,11 @@ module _ (_⊑_ : ℕ → ℕ → Bool) (_⊔_ : ℕ → ℕ → ℕ) where
   )
 
   -- a label is placed once by its own item, and by no other
-  here-placed : (l : ℕ) (P : List Item) → placings _⊑_ _⊔_ l (Label l ∷ P) ≡ suc (placings _⊑_ _⊔_ l P)
+  here-placed : (l : ℕ) (P : List Item) → placings l (Label l ∷ P) ≡ suc (placings l P)
   unfolding placings
   here-placed l P = let e : pick {A = ℕ} (eqb l l) 1 0 ≡ 1 = sym (is-equal l l 1 1 0 refl refl) in omega arith
 
-  other-placed : (l k : ℕ) (P : List Item) → (l ≡ k → ⊥) → placings _⊑_ _⊔_ k (Label l ∷ P) ≡ placings _⊑_ _⊔_ k P
+  other-placed : (l k : ℕ) (P : List Item) → (l ≡ k → ⊥) → placings k (Label l ∷ P) ≡ placings k P
   unfolding placings
   other-placed l k P d = let e : pick {A = ℕ} (eqb l k) 1 0 ≡ 0 = sym (not-equal l k 0 1 0 d refl) in omega arith
 
@@ -123,12 +123,12 @@ module _ (_⊑_ : ℕ → ℕ → Bool) (_⊔_ : ℕ → ℕ → ℕ) where
     label-owed : Owed n placed (Label l ∷ P) ↔ ((freeOf placed l ≡ true) × Owed n (set placed l true) P)
     label-owed = (
       λ o.
-          let one : (freeOf placed l ≡ true) × (placings _⊑_ _⊔_ l P ≡ 0) = free-to-place (getD placed l false) (placings _⊑_ _⊔_ l P) (sym (here-placed l P) ∙ o l in-range) in (
+          let one : (freeOf placed l ≡ true) × (placings l P ≡ 0) = free-to-place (getD placed l false) (placings l P) (sym (here-placed l P) ∙ o l in-range) in (
             one .0,
-            λ k b. here-or-other (λ (k : ℕ). placings _⊑_ _⊔_ k P ≡ toPlace (getD (set placed l true) k false)) l k (one .1 ∙ sym here-after)
+            λ k b. here-or-other (λ (k : ℕ). placings k P ≡ toPlace (getD (set placed l true) k false)) l k (one .1 ∙ sym here-after)
                 (λ d. sym (other-placed l k P d) ∙ o k b ∙ sym (other-after k d)),
           ),
-      λ h k b. here-or-other (λ (k : ℕ). placings _⊑_ _⊔_ k (Label l ∷ P) ≡ toPlace (getD placed k false)) l k
+      λ h k b. here-or-other (λ (k : ℕ). placings k (Label l ∷ P) ≡ toPlace (getD placed k false)) l k
           (here-placed l P ∙ ap suc (h .1 l in-range ∙ here-after) ∙ sym (to-place-free (getD placed l false) (h .0)))
           (λ d. other-placed l k P d ∙ h .1 k b ∙ other-after k d),
     )

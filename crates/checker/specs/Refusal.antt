@@ -9,8 +9,8 @@ use Rattle.choice.specs.Pick.{pick}
 use Rattle.listing.specs.declared.items.Item.{Item}
 use Rattle.listing.specs.Limits.{LABELS}
 use Rattle.listing.specs.Listing.{Field, LabelContext, EachAfter, Each}
-use Rattle.checker.specs.declared.walk.Block.{Block}
-use Rattle.checker.specs.declared.walk.Block.the-variants.{Start}
+use Rattle.checker.specs.declared.blocks.Block.{Block}
+use Rattle.checker.specs.declared.blocks.Block.the-variants.{Start}
 use Rattle.checker.specs.Numbers.{NO-LABEL, PLACED-TWICE, FIRST-STACK, WRITES-R0, NOT-LISTED, WRONG-SORT, NO-FIELD, NOT-THE-FIELD, STACK-RULE, PUSH-PAST, NOT-MET, LEVEL-RULE, OPEN-END, NEVER-PLACED}
 use Rattle.checker.specs.Context.{Context, contextOf, noRegisters}
 use Rattle.checker.specs.Rules.{Premise, _unless_, afterOf}
@@ -71,7 +71,7 @@ module _ (_⊑_ : ℕ → ℕ → Bool) (_⊔_ : ℕ → ℕ → ℕ) (shapes : 
 
   -- the premises that are due: those of the next item, or of the list's end
   unfoldable pub rowAt : State → List Item → List Premise
-  rowAt s [] = endRow _⊑_ _⊔_ shapes labels (s .block) (s .placed)
+  rowAt s [] = endRow (length labels) (s .block) (s .placed)
   rowAt s (i ∷ is) = premisesOf _⊑_ _⊔_ shapes labels (s .block) (s .context) (s .placed) i
 
   -- all premises of each item hold, where the walk has reached it

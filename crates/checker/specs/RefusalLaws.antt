@@ -12,11 +12,11 @@ use Rattle.choice.specs.Pick.{pick, is-true, is-equal, both, either}
 use Rattle.listing.specs.declared.items.Item.{Item}
 use Rattle.listing.specs.declared.items.Item.the-variants.{Halt, Jmp, Bnz, Load, Store, Compute, ComputeImmediate, Cpush, Cjmp, Label}
 use Rattle.listing.specs.Listing.{Field, LabelContext}
-use Rattle.checker.specs.declared.walk.Block.{Block}
-use Rattle.checker.specs.declared.walk.Block.the-variants.{Start, Closed, Open}
+use Rattle.checker.specs.declared.blocks.Block.{Block}
+use Rattle.checker.specs.declared.blocks.Block.the-variants.{Start, Closed, Open}
 use Rattle.checker.specs.declared.walk.Verdict.{Verdict}
-use Rattle.checker.specs.Context.{Context}
-use Rattle.checker.specs.Rules.{Premise, _unless_, firstFailing, targetOf, rowOf}
+use Rattle.checker.specs.Context.{Context, targetOf}
+use Rattle.checker.specs.Rules.{Premise, _unless_, firstFailing, rowOf}
 use Rattle.checker.specs.Walk.{verdictOf, accepted, isLabel, labelIn, freeOf, dueRow, enterRow, labelRow, orElse, premisesOf, walkFrom}
 use Rattle.checker.specs.Refusal.{tableOrder, placeIn, rank, InOrder, Holds, FirstFailure, NoneBelow, State, behind, reached, rowAt, AllHold, FirstRefusal}
 
@@ -104,7 +104,7 @@ module _ (_⊑_ : ℕ → ℕ → Bool) (_⊔_ : ℕ → ℕ → ℕ) (shapes : 
   unfolding rowAt premisesOf placeIn tableOrder pick
   in-table-order s [] = omega arith
   in-table-order s (i ∷ is) =
-      both (InOrder 0) (isLabel i) _ _ (enter-in-order (s .block) (s .context) (freeOf (s .placed) (labelIn i)) (targetOf _⊑_ _⊔_ shapes labels (labelIn i)))
+      both (InOrder 0) (isLabel i) _ _ (enter-in-order (s .block) (s .context) (freeOf (s .placed) (labelIn i)) (targetOf labels (labelIn i)))
       (due-in-order (s .block) _ (row-in-order (s .context) i))
 
   -- the walk from a state on

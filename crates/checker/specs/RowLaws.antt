@@ -24,7 +24,7 @@ module _ (shapes : List (List Field)) (labels : List LabelContext) (Γ : Context
 
   -- the first refusal; t is the context of the label that the item names
   module _ (r : ℕ) where
-    pub row-halt : item ≡ Halt → r ≡ firstFailing (haltRow belowOf joinOf Γ) → r ≡ Row item
+    pub row-halt : item ≡ Halt → r ≡ firstFailing (haltRow Γ) → r ≡ Row item
     unfolding rowOf
     row-halt e p = p ∙ ap Row (sym e)
 
@@ -61,9 +61,9 @@ module _ (shapes : List (List Field)) (labels : List LabelContext) (Γ : Context
       unfolding rowOf
       row-cpush e p = p ∙ ap (λ (x : LabelContext). firstFailing (cpushRow belowOf joinOf Γ x)) there ∙ ap Row (sym e)
 
-      pub row-cjmp : item ≡ Cjmp l → r ≡ firstFailing (cjmpRow belowOf joinOf Γ l t) → r ≡ Row item
+      pub row-cjmp : item ≡ Cjmp l → r ≡ firstFailing (cjmpRow Γ l t) → r ≡ Row item
       unfolding rowOf
-      row-cjmp e p = p ∙ ap (λ (x : LabelContext). firstFailing (cjmpRow belowOf joinOf Γ l x)) there ∙ ap Row (sym e)
+      row-cjmp e p = p ∙ ap (λ (x : LabelContext). firstFailing (cjmpRow Γ l x)) there ∙ ap Row (sym e)
 
   abbrev After : Item → Context
   After i = afterOf belowOf joinOf shapes labels Γ i

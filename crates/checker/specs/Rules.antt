@@ -10,10 +10,10 @@ use Rattle.listing.specs.declared.items.Item.the-variants.{Halt, Jmp, Bnz, Load
 use Rattle.listing.specs.Limits.{STACK}
 use Rattle.listing.specs.Listing.{Field, Register, LabelContext}
 use Rattle.checker.specs.declared.contexts.Slot.{Slot}
-use Rattle.checker.specs.declared.walk.Block.{Block}
-use Rattle.checker.specs.declared.walk.Block.the-variants.{Start, Closed, Open}
+use Rattle.checker.specs.declared.blocks.Block.{Block}
+use Rattle.checker.specs.declared.blocks.Block.the-variants.{Start, Closed, Open}
 use Rattle.checker.specs.Numbers.{NO-LABEL, PLACED-TWICE, FIRST-STACK, WRITES-R0, NOT-LISTED, WRONG-SORT, NO-FIELD, NOT-THE-FIELD, STACK-RULE, PUSH-PAST, NOT-MET, LEVEL-RULE}
-use Rattle.checker.specs.Context.{INTEGER, typed, Context, contextOf, slotAt, entered, nowhere, both, exactly, metOf, sameOf, fieldsOf, fieldOf}
+use Rattle.checker.specs.Context.{INTEGER, typed, Context, contextOf, slotAt, entered, targetOf, exactly, metOf, sameOf, fieldsOf, fieldOf}
 
 -- a premise, and the refusal where it fails
 pub record Premise : Type 0 where
@@ -30,6 +30,14 @@ unfoldable pub firstFailing : List Premise → ℕ
 firstFailing [] = 0
 firstFailing (p ∷ ps) = pick (p .holds) (firstFailing ps) (p .number)
 
+-- halt and cjmp have no condition on levels
+abbrev pub haltRow : Context → List Premise
+haltRow Γ = (STACK-RULE unless eqb (length (Γ .stack)) 0) ∷ []
+
+-- l is on top, the rest equals its own stack
+abbrev pub cjmpRow : Context → ℕ → LabelContext → List Premise
+cjmpRow Γ l t = (STACK-RULE unless sameOf (Γ .stack) (l ∷ t .stack)) ∷ (NOT-MET unless metOf (Γ .registers) (t .registers)) ∷ []
+
 module _ (_⊑_ : ℕ → ℕ → Bool) (_⊔_ : ℕ → ℕ → ℕ) where
   infix 5 _⊑_
   infix 6 _⊔_
@@ -41,9 +49,6 @@ module _ (_⊑_ : ℕ → ℕ → Bool) (_⊔_ : ℕ → ℕ → ℕ) where
       ∷ (NOT-MET unless metOf (Γ .registers) (t .registers))
       ∷ (LEVEL-RULE unless l ⊑ t .level)
       ∷ []
-
-  abbrev pub haltRow : Context → List Premise
-  haltRow Γ = (STACK-RULE unless eqb (length (Γ .stack)) 0) ∷ []
 
   abbrev pub bnzRow : Context → ℕ → LabelContext → List Premise
   bnzRow Γ rs t =
@@ -114,26 +119,19 @@ module _ (_⊑_ : ℕ → ℕ → Bool) (_⊔_ : ℕ → ℕ → ℕ) where
   abbrev pub cpushRow : Context → LabelContext → List Premise
   cpushRow Γ t = (PUSH-PAST unless ltb (length (Γ .stack)) STACK) ∷ (LEVEL-RULE unless Γ .level ⊑ t .level) ∷ []
 
-  -- l is on top, the rest equals its own stack
-  abbrev pub cjmpRow : Context → ℕ → LabelContext → List Premise
-  cjmpRow Γ l t = (STACK-RULE unless sameOf (Γ .stack) (l ∷ t .stack)) ∷ (NOT-MET unless metOf (Γ .registers) (t .registers)) ∷ []
-
   module _ (shapes : List (List Field)) (labels : List LabelContext) where
-    abbrev pub targetOf : ℕ → LabelContext
-    targetOf l = getD labels l nowhere
-
     -- the premises of an item in an open block; a label is fallen into
     unfoldable pub rowOf : Context → Item → List Premise
     rowOf Γ Halt = haltRow Γ
-    rowOf Γ (Jmp l) = jumpRow (Γ .level) Γ (targetOf l)
-    rowOf Γ (Bnz rs l) = bnzRow Γ rs (targetOf l)
+    rowOf Γ (Jmp l) = jumpRow (Γ .level) Γ (targetOf labels l)
+    rowOf Γ (Bnz rs l) = bnzRow Γ rs (targetOf labels l)
     rowOf Γ (Load rd rs c) = loadRow Γ rd rs c shapes
     rowOf Γ (Store rd c rs) = storeRow Γ rd c rs shapes
     rowOf Γ (Compute op rd rs rt) = computeRow Γ rd rs rt
     rowOf Γ (ComputeImmediate op rd rs i) = computeImmediateRow Γ rd rs
-    rowOf Γ (Cpush l) = cpushRow Γ (targetOf l)
-    rowOf Γ (Cjmp l) = cjmpRow Γ l (targetOf l)
-    rowOf Γ (Label l) = jumpRow (Γ .level) Γ (targetOf l)
+    rowOf Γ (Cpush l) = cpushRow Γ (targetOf labels l)
+    rowOf Γ (Cjmp l) = cjmpRow Γ l (targetOf labels l)
+    rowOf Γ (Label l) = jumpRow (Γ .level) Γ (targetOf labels l)
 
     -- the context behind an item
     unfoldable pub afterOf : Context → Item → Context
@@ -148,4 +146,4 @@ module _ (_⊑_ : ℕ → ℕ → Bool) (_⊔_ : ℕ → ℕ → ℕ) where
     afterOf Γ (ComputeImmediate op rd rs i) = contextOf (Γ .level) (Γ .stack) (set (Γ .registers) rd (typed INTEGER (slotAt (Γ .registers) rd .level)))
     afterOf Γ (Cpush l) = contextOf (Γ .level) (l ∷ Γ .stack) (Γ .registers)
     afterOf Γ (Cjmp l) = Γ
-    afterOf Γ (Label l) = entered (targetOf l)
+    afterOf Γ (Label l) = entered (targetOf labels l)

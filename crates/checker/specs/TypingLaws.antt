@@ -12,10 +12,10 @@ use Rattle.listing.specs.declared.items.Item.the-variants.{Halt, Jmp, Bnz, Load
 use Rattle.listing.specs.Limits.{STACK}
 use Rattle.listing.specs.Listing.{Field, LabelContext}
 use Rattle.checker.specs.declared.contexts.Slot.{Slot}
-use Rattle.checker.specs.declared.walk.Block.{Block}
-use Rattle.checker.specs.declared.walk.Block.the-variants.{Start, Closed, Open}
-use Rattle.checker.specs.Context.{INTEGER, typed, Context, slotAt, entered, fieldOf}
-use Rattle.checker.specs.Rules.{Premise, jumpRow, rowOf, targetOf, afterOf}
+use Rattle.checker.specs.declared.blocks.Block.{Block}
+use Rattle.checker.specs.declared.blocks.Block.the-variants.{Start, Closed, Open}
+use Rattle.checker.specs.Context.{INTEGER, typed, Context, slotAt, entered, fieldOf, targetOf}
+use Rattle.checker.specs.Rules.{Premise, jumpRow, rowOf, afterOf}
 use Rattle.checker.specs.Walk.{isLabel, labelIn, freeOf, blockAfter, dueRow, isOpen, enterRow, labelRow, premisesOf}
 use Rattle.checker.specs.Judgement.{Now, due, inside, ST-RegBank, Typed, T-Eof, T-Due, T-Label, T-Halt, T-Jmp, T-CondBrnch, T-Arith, T-Arithi, T-Load, T-Store, T-Cpush, T-Cjmp}
 use Rattle.checker.specs.Refusal.{Holds}
@@ -44,7 +44,7 @@ module _ (_⊑_ : ℕ → ℕ → Bool) (_⊔_ : ℕ → ℕ → ℕ) where
     Typing = Typed _⊑_ _⊔_ shapes labels
 
     abbrev target : ℕ → LabelContext
-    target = targetOf _⊑_ _⊔_ shapes labels
+    target = targetOf labels
 
     abbrev row : Context → Item → List Premise
     row = rowOf _⊑_ _⊔_ shapes labels

@@ -9,12 +9,12 @@ use Rattle.listing.specs.declared.items.Item.{Item}
 use Rattle.listing.specs.declared.items.Item.the-variants.{Halt, Jmp, Bnz, Load, Store, Compute, ComputeImmediate, Cpush, Cjmp, Label}
 use Rattle.listing.specs.Limits.{LABELS}
 use Rattle.listing.specs.Listing.{Field, LabelContext, Listing}
-use Rattle.checker.specs.declared.walk.Block.{Block}
-use Rattle.checker.specs.declared.walk.Block.the-variants.{Start, Closed, Open}
+use Rattle.checker.specs.declared.blocks.Block.{Block}
+use Rattle.checker.specs.declared.blocks.Block.the-variants.{Start, Closed, Open}
 use Rattle.checker.specs.declared.walk.Verdict.{Verdict}
 use Rattle.checker.specs.Numbers.{NO-LABEL, PLACED-TWICE, FIRST-STACK, OPEN-END, NEVER-PLACED}
-use Rattle.checker.specs.Context.{Context, contextOf, noRegisters}
-use Rattle.checker.specs.Rules.{Premise, _unless_, firstFailing, jumpRow, targetOf, rowOf, afterOf}
+use Rattle.checker.specs.Context.{Context, contextOf, noRegisters, targetOf}
+use Rattle.checker.specs.Rules.{Premise, _unless_, firstFailing, jumpRow, rowOf, afterOf}
 
 -- the number and place of a refusal; 0 and 0 is accepted
 abbrev pub verdictOf : ℕ → ℕ → Verdict
@@ -74,7 +74,7 @@ dueRow Start row = (NO-LABEL unless false) ∷ []
 dueRow Closed row = (NO-LABEL unless false) ∷ []
 dueRow Open row = row
 
--- each label that is never placed below n
+-- whether each of n labels from i on is placed
 unfoldable pub allFrom : List Bool → ℕ → ℕ → Bool
 allFrom placed i zero = true
 allFrom placed i (suc n) = pick (getD placed i false) (allFrom placed (i + 1) n) false
@@ -84,6 +84,10 @@ unfoldable pub isOpen : Block → Bool
 isOpen Start = false
 isOpen Closed = false
 isOpen Open = true
+
+-- the end of a list that has n labels
+abbrev pub endRow : ℕ → Block → List Bool → List Premise
+endRow n b placed = (OPEN-END unless pick (isOpen b) false true) ∷ (NEVER-PLACED unless allFrom placed 0 n) ∷ []
 
 -- the refusal n of the item or end at a place, or what follows where there is none
 unfoldable pub orElse : ℕ → ℕ → Verdict → Verdict
@@ -104,15 +108,12 @@ module _ (_⊑_ : ℕ → ℕ → Bool) (_⊔_ : ℕ → ℕ → ℕ) where
     unfoldable pub premisesOf : Block → Context → List Bool → Item → List Premise
     premisesOf b Γ placed i =
         pick (isLabel i)
-        (labelRow b Γ (freeOf placed (labelIn i)) (targetOf _⊑_ _⊔_ shapes labels (labelIn i)))
+        (labelRow b Γ (freeOf placed (labelIn i)) (targetOf labels (labelIn i)))
         (dueRow b (rowOf _⊑_ _⊔_ shapes labels Γ i))
-
-    abbrev pub endRow : Block → List Bool → List Premise
-    endRow b placed = (OPEN-END unless pick (isOpen b) false true) ∷ (NEVER-PLACED unless allFrom placed 0 (length labels)) ∷ []
 
     -- the walk from an item on
     unfoldable pub walkFrom : List Item → ℕ → Block → Context → List Bool → Verdict
-    walkFrom [] at b Γ placed = orElse (firstFailing (endRow b placed)) at accepted
+    walkFrom [] at b Γ placed = orElse (firstFailing (endRow (length labels) b placed)) at accepted
     walkFrom (i ∷ is) at b Γ placed =
         orElse (firstFailing (premisesOf b Γ placed i)) at (walkFrom is (at + 1) (blockAfter i) (afterOf _⊑_ _⊔_ shapes labels Γ i) (placedAfter placed i))
 

@@ -162,6 +162,13 @@ pub fn depth(s: Stack) -> usize
     }
 }
 
+// How many labels are on a label's stack.
+pub fn label_depth(numbers: &[u32], place: u32) -> u32
+    ensures { λ r. ⌜ r ≡ length (labelAt (now (numbers .entry)) place .stack) ⌝ }
+{
+    at_most(STACK, number_at(numbers, place as usize + 1))
+}
+
 // A stack with a label on top.
 pub fn push(s: Stack, l: u32) -> Stack
     requires { ⌜ length (stackIn s) < STACK ⌝ }

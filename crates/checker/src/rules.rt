@@ -37,7 +37,7 @@ ghost use Rattle.checker.specs.Tables.{shapeTable};
 ghost use Rattle.choice.specs.Pick.{pick};
 
 // The refusal of a premise, or what follows where it holds.
-fn unless(number: u8, holds: bool, rest: u8) -> u8
+pub fn unless(number: u8, holds: bool, rest: u8) -> u8
     ensures { λ r. ⌜ r ≡ pick holds rest number ⌝ }
 {
     if holds {
@@ -59,7 +59,7 @@ pub fn jump(l: u32, c: Held, numbers: &[u32], place: u32) -> u8
 }
 
 pub fn halt(c: Held) -> u8
-    ensures { λ r. ⌜ r ≡ firstFailing (haltRow belowOf joinOf (contextIn c)) ⌝ }
+    ensures { λ r. ⌜ r ≡ firstFailing (haltRow (contextIn c)) ⌝ }
 {
     let stack = c.stack;
     unless(STACK_RULE, depth(stack) == 0, 0)
@@ -167,7 +167,7 @@ pub fn cpush(c: Held, numbers: &[u32], place: u32) -> u8
 }
 
 pub fn cjmp(c: Held, l: u32, numbers: &[u32], place: u32) -> u8
-    ensures { λ r. ⌜ r ≡ firstFailing (cjmpRow belowOf joinOf (contextIn c) l (labelAt (now (numbers .entry)) place)) ⌝ }
+    ensures { λ r. ⌜ r ≡ firstFailing (cjmpRow (contextIn c) l (labelAt (now (numbers .entry)) place)) ⌝ }
 {
     let stack = c.stack;
     let registers = c.registers;
