@@ -46,7 +46,6 @@ placings l (Cjmp k ∷ P) = placings l P
 module _ (_⊑_ : ℕ → ℕ → Bool) (_⊔_ : ℕ → ℕ → ℕ) where
   infix 5 _⊑_
   infix 6 _⊔_
-
   -- (Γ, pc : l ∥ Λ) ≤ (Γ′, pc : l′ ∥ Λ), rule ST_RegBank
   pub record ST-RegBank (l : ℕ) (Γ : Context) (t : LabelContext) : Type 0 where
     pub stack : Γ .stack ≡ t .stack

@@ -5,6 +5,8 @@ pub mod Rules  -- for each item its premises in the table's order, and the conte
 pub mod Walk  -- the walk down the items
 pub mod Judgement  -- when a listing is well typed, by document 000's rules
 pub mod Held  -- how the code holds a context
+pub mod Check  -- the checker on packets
+pub mod CheckLaws  -- for the proofs of its code, and what it leaves in the buffer
 pub mod HeldLaws  -- for the proofs of its code
 pub mod Tables  -- where the parts of a listing begin
 pub mod RowLaws  -- a row of premises, premise by premise, for the proofs of the code of the rules

@@ -121,8 +121,8 @@ pub push-room : (shapes : List (List Field)) (labels : List LabelContext) (level
 unfolding rowOf firstFailing
 push-room shapes labels level stack registers item l e p =
     elim (either (ltb (length stack) STACK) _ _ 0 (ap (Row shapes labels (contextOf level stack registers) item) (sym e) ∙ p)) [
-    inl h ↦ ltb-true _ _ (h .0)
-    | inr h ↦ absurd (omega arith)
+      | inl h ↦ ltb-true _ _ (h .0)
+      | inr h ↦ absurd (omega arith)
     ]
 
 pub ruleset rows = (refl, row-halt, row-load, row-store, row-compute, row-compute-immediate, row-jmp, row-label, row-bnz, row-cpush, row-cjmp)

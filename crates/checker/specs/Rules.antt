@@ -21,7 +21,6 @@ pub record Premise : Type 0 where
   pub holds : Bool
 
 infix 4 _unless_
-
 abbrev pub _unless_ : ℕ → Bool → Premise
 number unless holds = record { number = number; holds = holds }
 
@@ -41,7 +40,6 @@ cjmpRow Γ l t = (STACK-RULE unless sameOf (Γ .stack) (l ∷ t .stack)) ∷ (NO
 module _ (_⊑_ : ℕ → ℕ → Bool) (_⊔_ : ℕ → ℕ → ℕ) where
   infix 5 _⊑_
   infix 6 _⊔_
-
   -- a jump, or a fall, at pc level l
   abbrev pub jumpRow : ℕ → Context → LabelContext → List Premise
   jumpRow l Γ t =

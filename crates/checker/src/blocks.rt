@@ -79,7 +79,14 @@ pub fn label_fault(block: Block, c: Held, unplaced: bool, numbers: &[u32], place
 }
 
 // The first refusal of an item that is no label.
-pub fn item_fault(block: Block, c: Held, item: Item, numbers: &[u32], shapes: &[u32; 64], labels: &[u32; 128]) -> u8
+pub fn item_fault(
+    block: Block,
+    c: Held,
+    item: Item,
+    numbers: &[u32],
+    shapes: &[u32; 64],
+    labels: &[u32; 128],
+) -> u8
     requires { ⌜ length (now numbers) ≤ BYTES ⌝ }
     requires { ⌜ now shapes ≡ shapeTable (now numbers) ⌝ }
     requires { ⌜ now labels ≡ labelTable (now numbers) ⌝ }

@@ -42,7 +42,11 @@ pub fn slot_at(registers: [Slot; 16], r: u32) -> Slot
     if i < 16 {
         registers[i]
     } else {
-        Slot { listed: false, kind: 0, level: 0 }
+        Slot {
+            listed: false,
+            kind: 0,
+            level: 0,
+        }
     }
 }
 
@@ -127,8 +131,16 @@ fn listed_slot(numbers: &[u32], at: usize) -> Slot
 fn no_registers() -> [Slot; 16]
     ensures { λ r. ⌜ r ≡ noRegisters ⌝ }
 {
-    let mut registers = [Slot { listed: false, kind: 0, level: 0 }; 16];
-    registers[0] = Slot { listed: true, kind: 0, level: 0 };
+    let mut registers = [Slot {
+        listed: false,
+        kind: 0,
+        level: 0,
+    }; 16];
+    registers[0] = Slot {
+        listed: true,
+        kind: 0,
+        level: 0,
+    };
     registers
 }
 
@@ -155,11 +167,7 @@ pub fn depth(s: Stack) -> usize
     ensures { λ r. ⌜ r ≡ length (stackIn s) ⌝ }
 {
     let top = s.top;
-    if top < 16 {
-        16 - top
-    } else {
-        0
-    }
+    if top < 16 { 16 - top } else { 0 }
 }
 
 // How many labels are on a label's stack.
@@ -178,7 +186,10 @@ pub fn push(s: Stack, l: u32) -> Stack
     let mut cells = s.cells;
     if top < 16 {
         cells[top - 1] = l;
-        return Stack { top: top - 1, cells };
+        return Stack {
+            top: top - 1,
+            cells,
+        };
     }
     cells[15] = l;
     Stack { top: 15, cells }
@@ -240,7 +251,10 @@ fn label_stack(numbers: &[u32], place: u32) -> Stack
 {
     let first = place as usize;
     let mut left = at_most(STACK, number_at(numbers, first + 1)) as usize;
-    let mut stack = Stack { top: 16, cells: [0; 16] };
+    let mut stack = Stack {
+        top: 16,
+        cells: [0; 16],
+    };
     while 0 < left {
         left -= 1;
         let next = push(stack, number_at(numbers, first + 2 + left));
@@ -264,5 +278,12 @@ pub fn enter(numbers: &[u32], place: u32) -> Held
 pub fn nothing() -> Held
     ensures { λ r. ⌜ contextIn r ≡ contextOf 0 [] noRegisters ⌝ }
 {
-    Held { level: 0, stack: Stack { top: 16, cells: [0; 16] }, registers: no_registers() }
+    Held {
+        level: 0,
+        stack: Stack {
+            top: 16,
+            cells: [0; 16],
+        },
+        registers: no_registers(),
+    }
 }

@@ -59,7 +59,11 @@ fn raised(c: Held, rs: u32) -> Held
     let stack = c.stack;
     let registers = c.registers;
     let s = slot_at(registers, rs);
-    Held { level: join(c.level, s.level as u32), stack, registers }
+    Held {
+        level: join(c.level, s.level as u32),
+        stack,
+        registers,
+    }
 }
 
 // The context with another kind of a register; its level stays.
@@ -69,8 +73,20 @@ fn changed(c: Held, rd: u32, kind: u8) -> Held
     let stack = c.stack;
     let registers = c.registers;
     let d = slot_at(registers, rd);
-    let after = with_slot(registers, rd, Slot { listed: true, kind, level: d.level });
-    Held { level: c.level, stack, registers: after }
+    let after = with_slot(
+        registers,
+        rd,
+        Slot {
+            listed: true,
+            kind,
+            level: d.level,
+        },
+    );
+    Held {
+        level: c.level,
+        stack,
+        registers: after,
+    }
 }
 
 // The kind of the field that rs points to.
@@ -92,11 +108,21 @@ fn pushed(c: Held, l: u32) -> Held
     let stack = c.stack;
     let registers = c.registers;
     let after = push(stack, l);
-    Held { level: c.level, stack: after, registers }
+    Held {
+        level: c.level,
+        stack: after,
+        registers,
+    }
 }
 
 // The context behind an item that is not refused.
-pub fn held_after(c: Held, item: Item, numbers: &[u32], shapes: &[u32; 64], labels: &[u32; 128]) -> Held
+pub fn held_after(
+    c: Held,
+    item: Item,
+    numbers: &[u32],
+    shapes: &[u32; 64],
+    labels: &[u32; 128],
+) -> Held
     requires { ⌜ length (now numbers) ≤ BYTES ⌝ }
     requires { ⌜ now shapes ≡ shapeTable (now numbers) ⌝ }
     requires { ⌜ now labels ≡ labelTable (now numbers) ⌝ }

@@ -4,7 +4,11 @@ mod blocks;
 mod contexts;
 mod items;
 pub mod numbers;
+mod packets;
 mod placed;
 mod rules;
 mod tables;
 mod walk;
+
+pub use packets::Checked;
+pub use packets::check;

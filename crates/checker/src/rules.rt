@@ -9,10 +9,10 @@ use crate::contexts::same_below;
 use crate::contexts::same_stack;
 use crate::contexts::slot_at;
 use crate::numbers::LEVEL_RULE;
+use crate::numbers::NO_FIELD;
 use crate::numbers::NOT_LISTED;
 use crate::numbers::NOT_MET;
 use crate::numbers::NOT_THE_FIELD;
-use crate::numbers::NO_FIELD;
 use crate::numbers::PUSH_PAST;
 use crate::numbers::STACK_RULE;
 use crate::numbers::WRITES_R0;
@@ -40,11 +40,7 @@ ghost use Rattle.choice.specs.Pick.{pick};
 pub fn unless(number: u8, holds: bool, rest: u8) -> u8
     ensures { λ r. ⌜ r ≡ pick holds rest number ⌝ }
 {
-    if holds {
-        rest
-    } else {
-        number
-    }
+    if holds { rest } else { number }
 }
 
 // A jump, or a fall, to the label at a place, at pc level l.
@@ -53,7 +49,11 @@ pub fn jump(l: u32, c: Held, numbers: &[u32], place: u32) -> u8
 {
     let stack = c.stack;
     let registers = c.registers;
-    let levels = unless(LEVEL_RULE, at_or_below(l, number_at(numbers, place as usize)), 0);
+    let levels = unless(
+        LEVEL_RULE,
+        at_or_below(l, number_at(numbers, place as usize)),
+        0,
+    );
     let lists = unless(NOT_MET, met(registers, numbers, place), levels);
     unless(STACK_RULE, same_stack(stack, numbers, place), lists)
 }
@@ -140,7 +140,11 @@ pub fn compute(c: Held, rd: u32, rs: u32, rt: u32) -> u8
     let t = slot_at(registers, rt);
     let l = join(join(c.level, s.level as u32), t.level as u32);
     let level = unless(LEVEL_RULE, at_or_below(l, d.level as u32), 0);
-    let sorts = unless(WRONG_SORT, s.kind == 0, unless(WRONG_SORT, t.kind == 0, level));
+    let sorts = unless(
+        WRONG_SORT,
+        s.kind == 0,
+        unless(WRONG_SORT, t.kind == 0, level),
+    );
     let sources = unless(NOT_LISTED, s.listed, unless(NOT_LISTED, t.listed, sorts));
     unless(WRITES_R0, 0 < rd, unless(NOT_LISTED, d.listed, sources))
 }
@@ -162,7 +166,11 @@ pub fn cpush(c: Held, numbers: &[u32], place: u32) -> u8
     ensures { λ r. ⌜ r ≡ firstFailing (cpushRow belowOf joinOf (contextIn c) (labelAt (now (numbers .entry)) place)) ⌝ }
 {
     let stack = c.stack;
-    let level = unless(LEVEL_RULE, at_or_below(c.level, number_at(numbers, place as usize)), 0);
+    let level = unless(
+        LEVEL_RULE,
+        at_or_below(c.level, number_at(numbers, place as usize)),
+        0,
+    );
     unless(PUSH_PAST, depth(stack) < STACK as usize, level)
 }
 

@@ -97,7 +97,10 @@ pub fn field_kind(numbers: &[u32], place: u32, c: u32) -> u8
     ensures { λ r. ⌜ r ≡ getD (shapeAt (now (numbers .entry)) place) c noField .kind ⌝ }
 {
     if c < count_at(FIELDS, numbers, place) {
-        at_most(SHAPES, number_at(numbers, place as usize + 1 + 2 * c as usize)) as u8
+        at_most(
+            SHAPES,
+            number_at(numbers, place as usize + 1 + 2 * c as usize),
+        ) as u8
     } else {
         0
     }
@@ -107,7 +110,10 @@ pub fn field_level(numbers: &[u32], place: u32, c: u32) -> u32
     ensures { λ r. ⌜ r ≡ getD (shapeAt (now (numbers .entry)) place) c noField .level ⌝ }
 {
     if c < count_at(FIELDS, numbers, place) {
-        at_most(TOP_LEVEL, number_at(numbers, place as usize + 1 + 2 * c as usize + 1))
+        at_most(
+            TOP_LEVEL,
+            number_at(numbers, place as usize + 1 + 2 * c as usize + 1),
+        )
     } else {
         0
     }

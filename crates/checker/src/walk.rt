@@ -42,7 +42,6 @@ pub struct Verdict {
     pub place: u32,
 }
 
-
 // The end of a list of so many items, whose first n labels are its own.
 fn end(block: Block, placed: [bool; 128], n: u32, at: u32) -> Verdict
     requires { ⌜ n ≤ LABELS ⌝ }
@@ -51,13 +50,25 @@ fn end(block: Block, placed: [bool; 128], n: u32, at: u32) -> Verdict
     let all = unless(NEVER_PLACED, all_placed(placed, n), 0);
     let k = unless(OPEN_END, is_closed(block), all);
     if k == 0 {
-        return Verdict { number: 0, place: 0 };
+        return Verdict {
+            number: 0,
+            place: 0,
+        };
     }
-    Verdict { number: k, place: at }
+    Verdict {
+        number: k,
+        place: at,
+    }
 }
 
 // The walk over the items, whose count stands at a place.
-fn walk_items(numbers: &[u32], shapes: &[u32; 64], labels: &[u32; 128], n: u32, place: u32) -> Verdict
+fn walk_items(
+    numbers: &[u32],
+    shapes: &[u32; 64],
+    labels: &[u32; 128],
+    n: u32,
+    place: u32,
+) -> Verdict
     requires { ⌜ length (now numbers) ≤ BYTES ⌝ }
     requires { ⌜ now shapes ≡ shapeTable (now numbers) ⌝ }
     requires { ⌜ now labels ≡ labelTable (now numbers) ⌝ }
@@ -88,7 +99,10 @@ fn walk_items(numbers: &[u32], shapes: &[u32; 64], labels: &[u32; 128], n: u32, 
                 at = behind_item(numbers, at);
                 i += 1;
             } else {
-                return Verdict { number: k, place: i };
+                return Verdict {
+                    number: k,
+                    place: i,
+                };
             }
         } else {
             let k = item_fault(block, held, item, numbers, shapes, labels);
@@ -99,7 +113,10 @@ fn walk_items(numbers: &[u32], shapes: &[u32; 64], labels: &[u32; 128], n: u32, 
                 at = behind_item(numbers, at);
                 i += 1;
             } else {
-                return Verdict { number: k, place: i };
+                return Verdict {
+                    number: k,
+                    place: i,
+                };
             }
         }
     }

@@ -17,7 +17,7 @@ use Rattle.listing.proofs.at_most.Reads as at-most-reads
 use Rattle.listing.proofs.number_at.Reads as number-at-reads
 
 abbrev Inv-loop : tie.InvT-loop
-Inv-loop registers numbers place count left₀ at₀ left at = 
+Inv-loop registers numbers place count left₀ at₀ left at =
     (metOf registers (labelAt numbers place .registers) ≡ metOf registers (partsFrom (registerAt numbers) (λ p. p + 3) at left))
     × (at + left * 3 ≤ at₀ + left₀ * 3)
 

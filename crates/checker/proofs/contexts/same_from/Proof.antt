@@ -15,7 +15,7 @@ use Rattle.listing.proofs.at_most.Reads as at-most-reads
 use Rattle.listing.proofs.number_at.Reads as number-at-reads
 
 abbrev Inv-loop : tie.InvT-loop
-Inv-loop from numbers place cells first left₀ at₀ i₀ left at i = 
+Inv-loop from numbers place cells first left₀ at₀ i₀ left at i =
     (sameOf (drop from cells) (labelAt numbers place .stack) ≡ sameOf (drop i cells) (partsFrom (numberAt numbers) (λ p. p + 1) at left))
     × (at + left ≤ at₀ + left₀)
 

@@ -15,7 +15,7 @@ use Rattle.listing.proofs.behind_label.Reads as behind-label-reads
 use Rattle.listing.proofs.count_at.Reads as count-at-reads
 
 abbrev Inv-loop : tie.InvT-loop
-Inv-loop numbers place table₀ n at₀ k₀ table at k = 
+Inv-loop numbers place table₀ n at₀ k₀ table at k =
     (labelTable numbers ≡ tabledFrom (behindLabel numbers) at k (n - k) table)
     × (k ≤ n)
     × (n ≤ LABELS)

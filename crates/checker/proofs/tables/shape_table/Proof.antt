@@ -15,7 +15,7 @@ use Rattle.listing.proofs.behind_shape.Reads as behind-shape-reads
 use Rattle.listing.proofs.count_at.Reads as count-at-reads
 
 abbrev Inv-loop : tie.InvT-loop
-Inv-loop numbers table₀ n at₀ k₀ table at k = 
+Inv-loop numbers table₀ n at₀ k₀ table at k =
     (shapeTable numbers ≡ tabledFrom (behindShape numbers) at k (n - k) table)
     × (k ≤ n)
     × (n ≤ SHAPES)

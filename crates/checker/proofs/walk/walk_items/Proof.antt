@@ -30,7 +30,7 @@ use Rattle.listing.proofs.behind_item.Reads as behind-item-reads
 use Rattle.listing.proofs.count_at.Reads as count-at-reads
 
 abbrev Inv-loop : tie.InvT-loop
-Inv-loop numbers shapes labels n place count block₀ held₀ placed₀ at₀ i₀ block held placed at i = 
+Inv-loop numbers shapes labels n place count block₀ held₀ placed₀ at₀ i₀ block held placed at i =
     (walkOf belowOf joinOf (listingIn numbers)
     ≡ walkFrom belowOf joinOf (shapesIn numbers) (labelsIn numbers) (partsFrom (itemAt numbers) (behindItem numbers) at (count - i)) i block (contextIn held) placed)
     × (i ≤ count)
