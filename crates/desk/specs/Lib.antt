@@ -4,6 +4,11 @@ pub mod ByteLaws  -- bytes to words and back, both ways
 pub mod Answer  -- the one number that a call answers
 pub mod RunCall  -- vans_run: the bare machine on byte buffers
 pub mod RunCallLaws  -- for the proofs of the code of vans_run
+pub mod PacketCall  -- what a call on a packet leaves
 pub mod ReadCall  -- vans_read: the packet reader on byte buffers
 pub mod ReadCallLaws  -- for the proofs of the code of vans_read
+pub mod CheckCall  -- vans_check: the checker
+pub mod EraseCall  -- vans_erase: the eraser on byte buffers
+pub mod Tasks  -- the calls on packets by their task
+pub mod CallLaws  -- for the proofs of the code of vans_check, vans_erase and the tasks
 pub mod Unique  -- any two results that meet the promise are equal

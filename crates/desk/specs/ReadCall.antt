@@ -9,31 +9,20 @@ use Rattle.listing.specs.declared.reading.Taken.the-variants.{Listing, Fault, N
 use Rattle.listing.specs.Packet.{numbersIn, takenOf}
 use Rattle.desk.specs.Bytes.{bytesOf}
 use Rattle.desk.specs.Answer.{answerOf}
-
--- the refusal of a buffer that is too short for what would be written to it
-abbrev pub DOES-NOT-FIT : ℕ
-DOES-NOT-FIT = 35
-
--- the answer, and the bytes of the buffer that is lent to be written
-pub record ReadCall : Type 0 where
-  pub answer : ℕ
-  pub numbers : List ℕ
-
-abbrev pub readCall : ℕ → List ℕ → ReadCall
-readCall answer numbers = record { answer = answer; numbers = numbers }
+use Rattle.desk.specs.PacketCall.{PacketCall, packetCall, DOES-NOT-FIT}
 
 -- n numbers handed over in bytes, in front of the buffer, where they fit; else 35 with the words needed
-unfoldable pub handedOf : List ℕ → ℕ → List ℕ → ReadCall
+unfoldable pub handedOf : List ℕ → ℕ → List ℕ → PacketCall
 handedOf ns n numbers =
-    pick (ltb (length numbers / 4) n) (readCall (answerOf DOES-NOT-FIT n 0) numbers)
-    (readCall (answerOf 0 0 n) (bytesOf ns ++ drop (n * 4) numbers))
+    pick (ltb (length numbers / 4) n) (packetCall (answerOf DOES-NOT-FIT n 0) numbers)
+    (packetCall (answerOf 0 0 n) (bytesOf ns ++ drop (n * 4) numbers))
 
 -- by what the packet is: a fault leaves the buffer as it was. takenOf is never NoRoom; were it, that would be a refusal
-unfoldable pub byTaken : Taken → List ℕ → List ℕ → ReadCall
+unfoldable pub byTaken : Taken → List ℕ → List ℕ → PacketCall
 byTaken (Listing n) ns numbers = handedOf ns n numbers
-byTaken (Fault k place) ns numbers = readCall (answerOf k place 0) numbers
-byTaken NoRoom ns numbers = readCall (answerOf DOES-NOT-FIT 0 0) numbers
+byTaken (Fault k place) ns numbers = packetCall (answerOf k place 0) numbers
+byTaken NoRoom ns numbers = packetCall (answerOf DOES-NOT-FIT 0 0) numbers
 
 -- the call
-unfoldable pub vansReadOf : List ℕ → List ℕ → ReadCall
+unfoldable pub vansReadOf : List ℕ → List ℕ → PacketCall
 vansReadOf packet numbers = byTaken (takenOf packet) (numbersIn packet) numbers

@@ -15,7 +15,8 @@ use Rattle.listing.specs.Packet.{readingOf, packetOf, numbersIn, takenOf}
 use Rattle.listing.specs.TakenLaws.{read-taken, read-count, read-place, read-numbers}
 use Rattle.desk.specs.Bytes.{bytesOf}
 use Rattle.desk.specs.Answer.{answerOf}
-use Rattle.desk.specs.ReadCall.{DOES-NOT-FIT, ReadCall, readCall, handedOf, byTaken, vansReadOf}
+use Rattle.desk.specs.PacketCall.{PacketCall, packetCall, DOES-NOT-FIT}
+use Rattle.desk.specs.ReadCall.{handedOf, byTaken, vansReadOf}
 
 -- the front of a list has as many elements as were asked for
 pub front-is : (n : ℕ) (l : List ℕ) → n ≤ length l → n ≡ length (take n l)
@@ -28,11 +29,11 @@ pub fronts-match : (n : ℕ) (room numbers : List ℕ) → n ≤ length room →
 fronts-match n room numbers h k = sym (bytes-front-is n numbers k) ∙ ap (λ (x : ℕ). x * 4) (front-is n room h)
 
 module _ (ns : List ℕ) (n : ℕ) (numbers : List ℕ) (a : ℕ) where
-  pub hands-not : length numbers / 4 < n → a ≡ answerOf DOES-NOT-FIT n 0 → readCall a numbers ≡ handedOf ns n numbers
+  pub hands-not : length numbers / 4 < n → a ≡ answerOf DOES-NOT-FIT n 0 → packetCall a numbers ≡ handedOf ns n numbers
   unfolding handedOf
-  hands-not h p = is-less (length numbers / 4) n _ _ _ h (ap (λ (x : ℕ). readCall x numbers) p)
+  hands-not h p = is-less (length numbers / 4) n _ _ _ h (ap (λ (x : ℕ). packetCall x numbers) p)
 
-  pub hands-over : (front : List ℕ) → n ≤ length numbers / 4 → front ≡ bytesOf ns → a ≡ answerOf 0 0 n → readCall a (front ++ drop (n * 4) numbers) ≡ handedOf ns n numbers
+  pub hands-over : (front : List ℕ) → n ≤ length numbers / 4 → front ≡ bytesOf ns → a ≡ answerOf 0 0 n → packetCall a (front ++ drop (n * 4) numbers) ≡ handedOf ns n numbers
   unfolding handedOf
   hands-over front h q p = not-less (length numbers / 4) n _ _ _ h (rw (p, q))
 
@@ -53,7 +54,7 @@ module _ (packet room room′ : List ℕ) (t : Taken) (e : readingOf t room′ �
   place-fits number place p = record { fits = omega (arith, place-small number place p) }
 
 -- by what the packet is
-module _ (packet numbers : List ℕ) (c : ReadCall) where
+module _ (packet numbers : List ℕ) (c : PacketCall) where
   as-taken : (t : Taken) → takenOf packet ≡ t → c ≡ byTaken t (numbersIn packet) numbers → c ≡ vansReadOf packet numbers
   unfolding vansReadOf
   as-taken t e p = p ∙ ap (λ (x : Taken). byTaken x (numbersIn packet) numbers) (sym e)
@@ -65,19 +66,19 @@ module _ (packet numbers : List ℕ) (c : ReadCall) where
         as-taken (Listing n) (sym (read-taken packet room room′ t e h k) ∙ p)
         (q ∙ ap (λ (ns : List ℕ). handedOf ns n numbers) (read-numbers packet room room′ t e h k n p))
 
-    pub reads-fault : (a number place : ℕ) → t ≡ Fault number place → a ≡ answerOf number place 0 → c ≡ readCall a numbers → c ≡ vansReadOf packet numbers
+    pub reads-fault : (a number place : ℕ) → t ≡ Fault number place → a ≡ answerOf number place 0 → c ≡ packetCall a numbers → c ≡ vansReadOf packet numbers
     unfolding byTaken
     reads-fault a number place p q s =
-        as-taken (Fault number place) (sym (read-taken packet room room′ t e h k) ∙ p) (s ∙ ap (λ (x : ℕ). readCall x numbers) q)
+        as-taken (Fault number place) (sym (read-taken packet room room′ t e h k) ∙ p) (s ∙ ap (λ (x : ℕ). packetCall x numbers) q)
 
-    pub reads-no-room : (a : ℕ) → t ≡ NoRoom → a ≡ answerOf DOES-NOT-FIT 0 0 → c ≡ readCall a numbers → c ≡ vansReadOf packet numbers
+    pub reads-no-room : (a : ℕ) → t ≡ NoRoom → a ≡ answerOf DOES-NOT-FIT 0 0 → c ≡ packetCall a numbers → c ≡ vansReadOf packet numbers
     unfolding byTaken
     reads-no-room a p q s =
-        as-taken NoRoom (sym (read-taken packet room room′ t e h k) ∙ p) (s ∙ ap (λ (x : ℕ). readCall x numbers) q)
+        as-taken NoRoom (sym (read-taken packet room room′ t e h k) ∙ p) (s ∙ ap (λ (x : ℕ). packetCall x numbers) q)
 
-  pub reads-too-long : (a : ℕ) → BYTES < length packet → a ≡ answerOf TOO-LONG 0 0 → c ≡ readCall a numbers → c ≡ vansReadOf packet numbers
+  pub reads-too-long : (a : ℕ) → BYTES < length packet → a ≡ answerOf TOO-LONG 0 0 → c ≡ packetCall a numbers → c ≡ vansReadOf packet numbers
   unfolding takenOf byTaken
   reads-too-long a h q s =
-      as-taken (Fault TOO-LONG 0) (sym (is-less BYTES (length packet) _ _ _ h refl)) (s ∙ ap (λ (x : ℕ). readCall x numbers) q)
+      as-taken (Fault TOO-LONG 0) (sym (is-less BYTES (length packet) _ _ _ h refl)) (s ∙ ap (λ (x : ℕ). packetCall x numbers) q)
 
 pub ruleset reads = (refl, count-in-room, count-in-packet, place-small, place-fits, reads-listing, reads-fault, reads-no-room, reads-too-long)

@@ -3,7 +3,8 @@ use Prim.Native.Nat.{ℕ}
 use mathlib.Core.Path.{_≡_, sym, ap, _∙_}
 use mathlib.Core.List.{List}
 use Rattle.desk.specs.RunCall.{RunCall, runCall, vansRunOf}
-use Rattle.desk.specs.ReadCall.{ReadCall, readCall, vansReadOf}
+use Rattle.desk.specs.PacketCall.{PacketCall, packetCall}
+use Rattle.desk.specs.ReadCall.{vansReadOf}
 
 pub vans-run-unique : (code heap regs : List ℕ) (budget a a′ : ℕ) (heap₁ heap₂ regs₁ regs₂ : List ℕ)
     → runCall a heap₁ regs₁ ≡ vansRunOf code heap regs budget → runCall a′ heap₂ regs₂ ≡ vansRunOf code heap regs budget
@@ -12,6 +13,6 @@ vans-run-unique code heap regs budget a a′ heap₁ heap₂ regs₁ regs₂ p q
     (ap (λ (c : RunCall). c .answer) (p ∙ sym q), ap (λ (c : RunCall). c .heap) (p ∙ sym q), ap (λ (c : RunCall). c .regs) (p ∙ sym q))
 
 pub vans-read-unique : (packet numbers : List ℕ) (a a′ : ℕ) (numbers₁ numbers₂ : List ℕ)
-    → readCall a numbers₁ ≡ vansReadOf packet numbers → readCall a′ numbers₂ ≡ vansReadOf packet numbers → (a ≡ a′) × (numbers₁ ≡ numbers₂)
+    → packetCall a numbers₁ ≡ vansReadOf packet numbers → packetCall a′ numbers₂ ≡ vansReadOf packet numbers → (a ≡ a′) × (numbers₁ ≡ numbers₂)
 vans-read-unique packet numbers a a′ numbers₁ numbers₂ p q =
-    (ap (λ (c : ReadCall). c .answer) (p ∙ sym q), ap (λ (c : ReadCall). c .numbers) (p ∙ sym q))
+    (ap (λ (c : PacketCall). c .answer) (p ∙ sym q), ap (λ (c : PacketCall). c .out) (p ∙ sym q))

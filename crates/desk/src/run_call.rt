@@ -111,7 +111,7 @@ fn small_room() -> [u32; SMALL_WORDS]
     [0; SMALL_WORDS]
 }
 
-fn code_room() -> [u32; CODE_WORDS]
+pub fn code_room() -> [u32; CODE_WORDS]
     ensures { λ r. ⌜ length r ≡ CODE-WORDS ⌝ }
 {
     [0; CODE_WORDS]

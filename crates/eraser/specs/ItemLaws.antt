@@ -4,7 +4,7 @@ use native.Mathlib.Omega.{arith}
 use mathlib.Core.Path.{_≡_, refl, sym, ap, _∙_}
 use mathlib.Core.Bool.{Bool, true, false}
 use mathlib.Core.List.{List, [], _∷_, _++_, map, map-append}
-use lib.ListN.{length, getD, length-append, length-map}
+use lib.ListN.{length, getD, length-append}
 use lib.Seq.{getD-at}
 use Rattle.choice.specs.Pick.{pick, is-true}
 use Rattle.machine.specs.Word.{wordOf, InRange}
@@ -12,6 +12,7 @@ use Rattle.listing.specs.declared.items.Item.{Item}
 use Rattle.listing.specs.declared.items.Item.the-variants.{Halt, Jmp, Bnz, Load, Store, Compute, ComputeImmediate, Cpush, Cjmp, Label}
 use Rattle.listing.specs.Listing.{ItemRange}
 use Rattle.eraser.specs.Erase.{keptOf, keptIn, neededOf, addressAt, kindFor, wordFor, codeOf}
+use Rattle.eraser.specs.PassLaws.{code-length}
 
 -- within the ranges nothing is cut: an item's word is the word of its kind, which has room for it
 pub record Whole (addresses : List ℕ) (i : Item) : Type 0 where
@@ -62,4 +63,4 @@ word-stands addresses front behind i e =
     let word : Item → ℕ = wordFor addresses in
     let row : map word (keptIn (front ++ i ∷ behind)) ≡ map word (keptIn front) ++ word i ∷ map word (keptIn behind) =
     ap (map word) (kept-append front (i ∷ behind) ∙ ap (_++_ (keptIn front)) (kept-first i behind e)) ∙ map-append word (keptIn front) (i ∷ keptIn behind) in
-    ap (λ (l : List ℕ). getD l (length (keptIn front)) 0) row ∙ getD-at (map word (keptIn front)) (word i) _ 0 _ (length-map (keptIn front) word)
+    ap (λ (l : List ℕ). getD l (length (keptIn front)) 0) row ∙ getD-at (map word (keptIn front)) (word i) _ 0 _ (code-length addresses front)

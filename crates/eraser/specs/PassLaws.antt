@@ -1,4 +1,4 @@
--- Laws for the eraser's code: one for each way through it. Two passes go over the items; each has its whole result as what is left of it from each item on. `passes` holds the laws for a search.
+-- Laws for the eraser's code: one for each way through it. Two passes go over the items; each has its whole result as what is left of it from each item on. `by-kept`, `passes` and `calls` hold the laws for a search; the laws of a turn take the invariant first, from which a search has the rest.
 use Prim.Native.Nat.{ℕ, suc, _+_, _-_, _*_, _≤_, _<_}
 use native.Mathlib.Nat.{zero-add}
 use native.Mathlib.Numerals.{add-one}
@@ -13,7 +13,7 @@ use Rattle.choice.specs.Pick.{pick, is-true, is-false, is-less, not-less}
 use Rattle.listing.specs.declared.items.Item.{Item}
 use Rattle.listing.specs.Limits.{ITEMS}
 use Rattle.listing.specs.Parts.{partsFrom, countAt, itemAt, behindItem, itemsPlace, itemsIn}
-use Rattle.listing.specs.PlaceLaws.{ITEM-NUMBERS, TOP-ITEMS-PLACE}
+use Rattle.listing.specs.PlaceLaws.{ITEM-NUMBERS, LISTING-NUMBERS}
 use Rattle.eraser.specs.Erase.{keptOf, keptIn, neededOf, countBehind, passFrom, labelOf, entered, addressesFrom, noAddresses, addressesOf, wordFor, codeOf, erasedBy, eraseOf, eraseItems}
 
 -- the word of an item that is known by its parts
@@ -79,7 +79,7 @@ Passing change ns words₀ at left count words =
     × (neededOf (itemsIn ns) ≡ count + neededOf (itemsLeft ns at left))
     × (length words ≡ length words₀)
     × (count + left ≤ ITEMS)
-    × (at + ITEM-NUMBERS * left ≤ TOP-ITEMS-PLACE + 1 + ITEM-NUMBERS * ITEMS)
+    × (at + ITEM-NUMBERS * left ≤ LISTING-NUMBERS)
 
 -- the count of kept items, and the words that are written, one item on: by whether it is kept
 needed-way : (t : Bool) (i : Item) (items : List Item) (count : ℕ) → count + length (pick t (i ∷ items) items) ≡ pick t (count + 1) count + length items
@@ -153,7 +153,12 @@ module _ (ns : List ℕ) (at left : ℕ) (h : left ≤ 0) where
   unfolding passFrom
   words-end change whole words count inv = sym (inv ∙ ap (λ (l : List Item). passFrom change l count words) none-left)
 
-pub ruleset passes = (refl, needed-begins, words-begin, needed-ends, words-end)
+pub ruleset passes = (needed-begins, words-begin, needed-ends, words-end)
+
+-- the code has a word for each kept item
+pub code-length : (addresses : List ℕ) (items : List Item) → length (codeOf addresses items) ≡ neededOf items
+unfolding codeOf neededOf
+code-length addresses items = length-map (keptIn items) (wordFor addresses)
 
 -- the call: it refuses what does not fit, else the words stand in front
 module _ (ns code : List ℕ) (count : ℕ) (e : count ≡ neededOf (itemsIn ns)) where
@@ -163,11 +168,11 @@ module _ (ns code : List ℕ) (count : ℕ) (e : count ≡ neededOf (itemsIn ns)
 
   pub call-erases : count ≤ length code → (table addresses code′ : List ℕ) → table ≡ noAddresses → addresses ≡ addressesFrom (itemsIn ns) 0 table
       → code′ ≡ writtenFrom addresses (itemsIn ns) 0 code → erasedBy count code′ ≡ eraseOf ns code
-  unfolding eraseItems addressesOf codeOf neededOf
+  unfolding eraseItems addressesOf
   call-erases h table addresses code′ t a p =
       let items : List Item = itemsIn ns in
       let words : List ℕ = codeOf (addressesOf items) items in
-      let many : length words ≡ neededOf items = length-map (keptIn items) (wordFor (addressesOf items)) in
+      let many : length words ≡ neededOf items = code-length (addressesOf items) items in
       let fits : neededOf items ≤ length code = rw e at h in
       let same : addresses ≡ addressesOf items = a ∙ ap (addressesFrom items 0) t in
       let stands : code′ ≡ words ++ drop (neededOf items) code =

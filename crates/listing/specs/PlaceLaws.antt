@@ -1,12 +1,11 @@
 -- Where the parts of a listing stand among its numbers: how far each place lies at most, and the turns of the loops that find them. `places` holds the laws for a search.
 use Prim.Native.Nat.{ℕ, suc, _+_, _-_, _*_, _≤_, _<_}
 use native.Mathlib.Omega.{arith}
-use mathlib.Core.Path.{_≡_, refl, sym, ap, subst, _∙_}
+use mathlib.Core.Path.{_≡_, sym, ap, subst, _∙_}
 use mathlib.Core.List.{List}
-use lib.Dec.{ltb}
 use Rattle.choice.specs.Pick.{both, if-less}
 use Rattle.listing.specs.Limits.{SHAPES, FIELDS, LABELS, STACK, REGISTERS, ITEMS}
-use Rattle.listing.specs.Parts.{behind, countOf, countAt, numberAt, sizeOf, behindShape, behindLabel, labelsPlace, itemsPlace}
+use Rattle.listing.specs.Parts.{behind, countOf, countAt, sizeOf, behindShape, behindLabel, labelsPlace, itemsPlace}
 
 -- the most numbers of a shape, a label and an item
 abbrev pub SHAPE-NUMBERS : ℕ
@@ -24,6 +23,10 @@ TOP-LABELS-PLACE = 2 + SHAPE-NUMBERS * SHAPES
 
 abbrev pub TOP-ITEMS-PLACE : ℕ
 TOP-ITEMS-PLACE = TOP-LABELS-PLACE + 1 + LABEL-NUMBERS * LABELS
+
+-- the most numbers of a listing
+abbrev pub LISTING-NUMBERS : ℕ
+LISTING-NUMBERS = TOP-ITEMS-PLACE + 1 + ITEM-NUMBERS * ITEMS
 
 -- a count is held to its limit, and an item to its size
 pub count-held : (limit n r : ℕ) → r ≡ countOf limit n → r ≤ limit
@@ -58,4 +61,4 @@ pub items-begin : (ns : List ℕ) (place n : ℕ) → place ≡ labelsPlace ns �
 unfolding itemsPlace
 items-begin ns place n p e = rw (← p) (ap (behind (behindLabel ns) (place + 1)) (sym e))
 
-pub ruleset places = (refl, count-held, size-held, place-turn, place-end, labels-begin, items-begin)
+pub ruleset places = (place-turn, place-end, labels-begin, items-begin)

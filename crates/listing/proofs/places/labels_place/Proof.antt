@@ -17,10 +17,10 @@ labels-place-spec =
     (tie.spec
     Inv-loop
     μ-loop
-    (λ c κs. search (places, needs))
+    (λ c κs. search needs)
     (λ c. search (places, needs))
-    (λ c κs. search (places, needs))
-    (λ c. search (places, needs))
-    (λ c. search (places, needs))
+    (λ c κs. search needs)
+    (λ c. search needs)
+    (λ c. search needs)
     (λ c. search (places, needs))
     (λ c. search (places, needs)))

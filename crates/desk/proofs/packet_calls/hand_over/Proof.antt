@@ -1,8 +1,8 @@
 -- `hand_over` hands numbers over where they fit.
 use Rattle.desk.specs.ReadCallLaws.{hands}
 use borrow.Author.Needs.{needs}
-use Rattle.desk.proofs.read_call.hand_over.Statement.{statement}
-use Rattle.desk.proofs.read_call.hand_over.Tie as tie
+use Rattle.desk.proofs.packet_calls.hand_over.Statement.{statement}
+use Rattle.desk.proofs.packet_calls.hand_over.Tie as tie
 
 pub hand-over-spec : {M : Type 1} → statement M
 hand-over-spec =

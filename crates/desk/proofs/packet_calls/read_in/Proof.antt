@@ -1,8 +1,8 @@
 -- `read_in` goes by what the packet is: each arm is a law.
 use Rattle.desk.specs.ReadCallLaws.{reads}
 use borrow.Author.Needs.{needs}
-use Rattle.desk.proofs.read_call.read_in.Statement.{statement}
-use Rattle.desk.proofs.read_call.read_in.Tie as tie
+use Rattle.desk.proofs.packet_calls.read_in.Statement.{statement}
+use Rattle.desk.proofs.packet_calls.read_in.Tie as tie
 
 pub read-in-spec : {M : Type 1} → statement M
 read-in-spec =

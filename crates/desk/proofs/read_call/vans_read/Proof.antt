@@ -1,9 +1,0 @@
--- `vans_read` answers 6, or reads in a room that is large enough.
-use Rattle.desk.specs.ReadCallLaws.{reads}
-use borrow.Author.Needs.{needs}
-use Rattle.desk.proofs.read_call.vans_read.Statement.{statement}
-use Rattle.desk.proofs.read_call.vans_read.Tie as tie
-
-pub vans-read-spec : {M : Type 1} → statement M
-vans-read-spec =
-    tie.close (tie.spec (λ c κs. search needs) (λ c. search (reads, needs)) (λ c κs. search needs) (λ c. search needs) (λ c. search needs))

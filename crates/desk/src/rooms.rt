@@ -1,0 +1,125 @@
+// Rooms for the numbers of a packet. Each call on a packet reads it into a room that it owns; `task`
+// says which call it is.
+use crate::packet_calls::task_in;
+use listing::limits::BYTES;
+ghost use mathlib.Core.Path.{_≡_};
+ghost use Prim.Native.Nat.{_≤_};
+ghost use lib.ListN.{length};
+ghost use Rattle.listing.specs.Limits.{BYTES};
+ghost use Rattle.desk.specs.PacketCall.{packetCall};
+ghost use Rattle.desk.specs.Tasks.{taskOf};
+// The bytes of packets for which there is a room of their own. The longest packet that is taken has
+// fewer bytes than a long one here.
+const SMALL_PACKET: usize = 128;
+
+const SHORT_PACKET: usize = 1024;
+
+const MIDDLE_PACKET: usize = 4096;
+
+const LONG_PACKET: usize = 20480;
+
+// Rooms for the numbers of a packet, a word for each byte, in sizes: a short packet does not pay for
+// clearing the longest one's room.
+
+fn small_room() -> [u32; SMALL_PACKET]
+    ensures { λ r. ⌜ length r ≡ 128 ⌝ }
+{
+    [0; SMALL_PACKET]
+}
+
+fn short_room() -> [u32; SHORT_PACKET]
+    ensures { λ r. ⌜ length r ≡ 1024 ⌝ }
+{
+    [0; SHORT_PACKET]
+}
+
+fn middle_room() -> [u32; MIDDLE_PACKET]
+    ensures { λ r. ⌜ length r ≡ 4096 ⌝ }
+{
+    [0; MIDDLE_PACKET]
+}
+
+fn long_room() -> [u32; LONG_PACKET]
+    ensures { λ r. ⌜ length r ≡ 20480 ⌝ }
+{
+    [0; LONG_PACKET]
+}
+
+fn longest_room() -> [u32; BYTES]
+    ensures { λ r. ⌜ length r ≡ BYTES ⌝ }
+{
+    [0; BYTES]
+}
+
+fn in_small(task: u32, packet: &[u8], out: &mut [u8]) -> u64
+    requires { ⌜ length (now packet) ≤ 128 ⌝ }
+    ensures { λ a. ⌜ packetCall a (now (out .exit)) ≡ taskOf task (now (packet .entry)) (now (out .entry)) ⌝ }
+{
+    let mut room = small_room();
+    task_in(task, &mut room, packet, out)
+}
+
+fn in_short(task: u32, packet: &[u8], out: &mut [u8]) -> u64
+    requires { ⌜ length (now packet) ≤ 1024 ⌝ }
+    ensures { λ a. ⌜ packetCall a (now (out .exit)) ≡ taskOf task (now (packet .entry)) (now (out .entry)) ⌝ }
+{
+    let mut room = short_room();
+    task_in(task, &mut room, packet, out)
+}
+
+fn in_middle(task: u32, packet: &[u8], out: &mut [u8]) -> u64
+    requires { ⌜ length (now packet) ≤ 4096 ⌝ }
+    ensures { λ a. ⌜ packetCall a (now (out .exit)) ≡ taskOf task (now (packet .entry)) (now (out .entry)) ⌝ }
+{
+    let mut room = middle_room();
+    task_in(task, &mut room, packet, out)
+}
+
+fn in_long(task: u32, packet: &[u8], out: &mut [u8]) -> u64
+    requires { ⌜ length (now packet) ≤ 20480 ⌝ }
+    ensures { λ a. ⌜ packetCall a (now (out .exit)) ≡ taskOf task (now (packet .entry)) (now (out .entry)) ⌝ }
+{
+    let mut room = long_room();
+    task_in(task, &mut room, packet, out)
+}
+
+fn in_longest(task: u32, packet: &[u8], out: &mut [u8]) -> u64
+    requires { ⌜ length (now packet) ≤ BYTES ⌝ }
+    ensures { λ a. ⌜ packetCall a (now (out .exit)) ≡ taskOf task (now (packet .entry)) (now (out .entry)) ⌝ }
+{
+    let mut room = longest_room();
+    task_in(task, &mut room, packet, out)
+}
+
+// Tries the rooms from a size on. It calls itself for the next size, as run_from does and for the same
+// reason: a short packet does not make the longest room's stack frame.
+pub fn in_room(size: u32, task: u32, packet: &[u8], out: &mut [u8]) -> u64
+    requires { ⌜ length (now packet) ≤ BYTES ⌝ }
+    ensures { λ a. ⌜ packetCall a (now (out .exit)) ≡ taskOf task (now (packet .entry)) (now (out .entry)) ⌝ }
+{
+    if size == 0 {
+        if packet.len() <= SMALL_PACKET {
+            return in_small(task, packet, out);
+        }
+        return in_room(1, task, packet, out);
+    }
+    if size == 1 {
+        if packet.len() <= SHORT_PACKET {
+            return in_short(task, packet, out);
+        }
+        return in_room(2, task, packet, out);
+    }
+    if size == 2 {
+        if packet.len() <= MIDDLE_PACKET {
+            return in_middle(task, packet, out);
+        }
+        return in_room(3, task, packet, out);
+    }
+    if size == 3 {
+        if packet.len() <= LONG_PACKET {
+            return in_long(task, packet, out);
+        }
+        return in_room(4, task, packet, out);
+    }
+    in_longest(task, packet, out)
+}
