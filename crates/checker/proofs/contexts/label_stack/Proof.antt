@@ -1,20 +1,14 @@
+-- `label_stack` pushes from the last label up: what is pushed is the label's stack from there on.
 use Rattle.checker.specs.HeldLaws.{pushings}
-use Prim.Native.Nat.{_+_, _*_, _-_, _≤_}
+use Prim.Native.Nat.{_+_, _-_, _≤_}
 use mathlib.Core.Path.{_≡_}
 use native.Mathlib.Omega.{arith}
-use lib.ListN.{drop}
 use Rattle.listing.specs.Limits.{STACK}
 use Rattle.listing.specs.Parts.{partsFrom, numberAt, countAt}
-use Rattle.checker.specs.Context.{metOf, withListed, sameOf}
 use Rattle.checker.specs.Held.{stackIn}
 use borrow.Author.Needs.{needs}
 use Rattle.checker.proofs.contexts.label_stack.Statement.{statement}
 use Rattle.checker.proofs.contexts.label_stack.Tie as tie
-use Rattle.checker.proofs.contexts.label_stack.Reads as reads
-use Rattle.checker.proofs.contexts.label_stack.Lts as lts
-use Rattle.checker.proofs.contexts.push.Reads as push-reads
-use Rattle.listing.proofs.at_most.Reads as at-most-reads
-use Rattle.listing.proofs.number_at.Reads as number-at-reads
 
 abbrev Inv-loop : tie.InvT-loop
 Inv-loop numbers place first left₀ stack₀ left stack =
@@ -25,44 +19,11 @@ Inv-loop numbers place first left₀ stack₀ left stack =
 abbrev μ-loop : tie.MeasureT-loop
 μ-loop numbers place first left₀ stack₀ left stack = left
 
-add-number-at : tie.Need-add-number-at Inv-loop μ-loop
-add-number-at c = search (pushings, needs)
-
-number-at-requires : tie.Need-number-at-requires Inv-loop μ-loop
-number-at-requires c κs = search (pushings, needs)
-
-at-most-requires : tie.Need-at-most-requires Inv-loop μ-loop
-at-most-requires c κs = search (pushings, needs)
-
-cast-left : tie.Need-cast-left Inv-loop μ-loop
-cast-left c = search (pushings, needs)
-
 loop-holds : tie.Need-loop-holds Inv-loop μ-loop
 loop-holds c = (search (pushings, needs), search (pushings, needs), omega arith)
 
-sub-left : tie.Need-sub-left Inv-loop μ-loop
-sub-left c = search (pushings, needs)
-
-add-number-at-2 : tie.Need-add-number-at-2 Inv-loop μ-loop
-add-number-at-2 c = search (pushings, needs)
-
-add-number-at-3 : tie.Need-add-number-at-3 Inv-loop μ-loop
-add-number-at-3 c = search (pushings, needs)
-
-number-at-requires-2 : tie.Need-number-at-requires-2 Inv-loop μ-loop
-number-at-requires-2 c κs = search (pushings, needs)
-
-push-requires : tie.Need-push-requires Inv-loop μ-loop
-push-requires c κs = search (pushings, needs)
-
-loop-less : tie.Need-loop-less Inv-loop μ-loop
-loop-less c = search (pushings, needs)
-
 loop-again : tie.Need-loop-again Inv-loop μ-loop
 loop-again c = (search (pushings, needs), omega arith, omega arith)
-
-returns : tie.Need-returns Inv-loop μ-loop
-returns c = search (pushings, needs)
 
 pub label-stack-spec : {M : Type 1} → statement M
 label-stack-spec =
@@ -70,16 +31,16 @@ label-stack-spec =
     (tie.spec
     Inv-loop
     μ-loop
-    add-number-at
-    number-at-requires
-    at-most-requires
-    cast-left
+    (λ c. search (pushings, needs))
+    (λ c κs. search (pushings, needs))
+    (λ c κs. search (pushings, needs))
+    (λ c. search (pushings, needs))
     loop-holds
-    sub-left
-    add-number-at-2
-    add-number-at-3
-    number-at-requires-2
-    push-requires
-    loop-less
+    (λ c. search (pushings, needs))
+    (λ c. search (pushings, needs))
+    (λ c. search (pushings, needs))
+    (λ c κs. search (pushings, needs))
+    (λ c κs. search (pushings, needs))
+    (λ c. search (pushings, needs))
     loop-again
-    returns)
+    (λ c. search (pushings, needs)))

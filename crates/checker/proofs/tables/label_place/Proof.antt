@@ -1,32 +1,9 @@
-use Rattle.checker.specs.Tables.{finds, fields, tablings, tabledFrom, shapeTable, labelTable}
-use Prim.Native.Nat.{_+_, _*_, _-_, _≤_}
-use mathlib.Core.Path.{_≡_}
-use native.Mathlib.Omega.{arith}
-use lib.ListN.{length}
-use Rattle.listing.specs.Limits.{SHAPES, LABELS}
-use Rattle.listing.specs.Parts.{behindShape, behindLabel}
-use Rattle.listing.specs.PlaceLaws.{SHAPE-NUMBERS, LABEL-NUMBERS, TOP-LABELS-PLACE}
+-- `label_place` takes a label's place from the table, or the end.
+use Rattle.checker.specs.Tables.{finds}
 use borrow.Author.Needs.{needs}
 use Rattle.checker.proofs.tables.label_place.Statement.{statement}
 use Rattle.checker.proofs.tables.label_place.Tie as tie
-use Rattle.checker.proofs.tables.label_place.Reads as reads
-use Rattle.checker.proofs.tables.label_place.Lts as lts
-
-mul-result : tie.Need-mul-result
-mul-result c = search needs
-
-element-copy-out-result : tie.Need-element-copy-out-result
-element-copy-out-result c = search needs
-
-cast-result : tie.Need-cast-result
-cast-result c = search needs
-
-returns : tie.Need-returns
-returns c = search (finds, needs)
-
-returns-2 : tie.Need-returns-2
-returns-2 c = search (finds, needs)
 
 pub label-place-spec : {M : Type 1} → statement M
 label-place-spec =
-    tie.close (tie.spec mul-result element-copy-out-result cast-result returns returns-2)
+    tie.close (tie.spec (λ c. search needs) (λ c. search needs) (λ c. search needs) (λ c. search (finds, needs)) (λ c. search (finds, needs)))

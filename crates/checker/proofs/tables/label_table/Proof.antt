@@ -1,18 +1,15 @@
-use Rattle.checker.specs.Tables.{finds, fields, tablings, tabledFrom, shapeTable, labelTable}
+-- `label_table` enters the place of each label: the whole table is what is left to enter from each label on.
+use Rattle.checker.specs.Tables.{finds, fields, tablings, tabledFrom, labelTable}
 use Prim.Native.Nat.{_+_, _*_, _-_, _≤_}
 use mathlib.Core.Path.{_≡_}
 use native.Mathlib.Omega.{arith}
 use lib.ListN.{length}
-use Rattle.listing.specs.Limits.{SHAPES, LABELS}
-use Rattle.listing.specs.Parts.{behindShape, behindLabel}
-use Rattle.listing.specs.PlaceLaws.{SHAPE-NUMBERS, LABEL-NUMBERS, TOP-LABELS-PLACE}
+use Rattle.listing.specs.Limits.{LABELS}
+use Rattle.listing.specs.Parts.{behindLabel}
+use Rattle.listing.specs.PlaceLaws.{LABEL-NUMBERS}
 use borrow.Author.Needs.{needs}
 use Rattle.checker.proofs.tables.label_table.Statement.{statement}
 use Rattle.checker.proofs.tables.label_table.Tie as tie
-use Rattle.checker.proofs.tables.label_table.Reads as reads
-use Rattle.checker.proofs.tables.label_table.Lts as lts
-use Rattle.listing.proofs.behind_label.Reads as behind-label-reads
-use Rattle.listing.proofs.count_at.Reads as count-at-reads
 
 abbrev Inv-loop : tie.InvT-loop
 Inv-loop numbers place table₀ n at₀ k₀ table at k =
@@ -25,41 +22,11 @@ Inv-loop numbers place table₀ n at₀ k₀ table at k =
 abbrev μ-loop : tie.MeasureT-loop
 μ-loop numbers place table₀ n at₀ k₀ table at k = n - k
 
-cast-table : tie.Need-cast-table Inv-loop μ-loop
-cast-table c = search (finds, fields, tablings, needs)
-
-count-at-requires : tie.Need-count-at-requires Inv-loop μ-loop
-count-at-requires c κs = search (finds, fields, tablings, needs)
-
-cast-n : tie.Need-cast-n Inv-loop μ-loop
-cast-n c = search (finds, fields, tablings, needs)
-
-add-at : tie.Need-add-at Inv-loop μ-loop
-add-at c = search (finds, fields, tablings, needs)
-
 loop-holds : tie.Need-loop-holds Inv-loop μ-loop
 loop-holds c = (search (tablings, needs), omega arith, omega arith, omega arith, search needs)
 
-mul-table : tie.Need-mul-table Inv-loop μ-loop
-mul-table c = search (finds, fields, tablings, needs)
-
-array-write-table : tie.Need-array-write-table Inv-loop μ-loop
-array-write-table c = search (finds, fields, tablings, needs)
-
-behind-label-requires : tie.Need-behind-label-requires Inv-loop μ-loop
-behind-label-requires c κs = search (finds, fields, tablings, needs)
-
-add-k : tie.Need-add-k Inv-loop μ-loop
-add-k c = search (finds, fields, tablings, needs)
-
-loop-less : tie.Need-loop-less Inv-loop μ-loop
-loop-less c = search (finds, fields, tablings, needs)
-
 loop-again : tie.Need-loop-again Inv-loop μ-loop
 loop-again c = (search (tablings, needs), omega arith, omega arith, omega arith, search needs)
-
-returns : tie.Need-returns Inv-loop μ-loop
-returns c = search (finds, fields, tablings, needs)
 
 pub label-table-spec : {M : Type 1} → statement M
 label-table-spec =
@@ -67,15 +34,15 @@ label-table-spec =
     (tie.spec
     Inv-loop
     μ-loop
-    cast-table
-    count-at-requires
-    cast-n
-    add-at
+    (λ c. search (finds, fields, tablings, needs))
+    (λ c κs. search (finds, fields, tablings, needs))
+    (λ c. search (finds, fields, tablings, needs))
+    (λ c. search (finds, fields, tablings, needs))
     loop-holds
-    mul-table
-    array-write-table
-    behind-label-requires
-    add-k
-    loop-less
+    (λ c. search (finds, fields, tablings, needs))
+    (λ c. search (finds, fields, tablings, needs))
+    (λ c κs. search (finds, fields, tablings, needs))
+    (λ c. search (finds, fields, tablings, needs))
+    (λ c. search (finds, fields, tablings, needs))
     loop-again
-    returns)
+    (λ c. search (finds, fields, tablings, needs)))
