@@ -7,7 +7,7 @@ use mathlib.Core.List.{List, [], _∷_}
 use mir.Syntax.{w8}
 use mir.Val.{Fits}
 use lib.ListN.{length, getD, set, drop, length-drop, drop-of-length-le}
-use lib.Seq.{drop-cons}
+use lib.Seq.{drop-cons, set-out}
 use borrow.Author.Tests.{ltb-false}
 use Rattle.choice.specs.Pick.{pick, is-true, is-false, is-equal, not-equal, each-way}
 use Rattle.listing.specs.Limits.{STACK, SHAPES, TOP-LEVEL}
@@ -134,6 +134,13 @@ module _ (pushed ns : List ℕ) (at left n : ℕ) (inv : pushed ≡ labelsFrom n
       ∙ (λ i. p i ∷ (inv ∙ (λ j. labelsFrom ns (sym behind j) (sym fewer j))) i)
       ∙ sym (parts-more (numberAt ns) (λ p. p + 1) (at + (left - 1)) (count - (left - 1)) (omega arith))
 
+  pub stack-written : (cells : List ℕ) (top l : ℕ) → pushed ≡ drop top cells → length cells ≡ STACK → top + (count - left) ≡ STACK → 0 < left → l ≡ numberAt ns (at + (left - 1))
+      → drop (top - 1) (set cells (top - 1) l) ≡ labelsFrom ns (at + (left - 1)) (count - (left - 1))
+  stack-written cells top l p w s h q =
+      let room : 0 < top = omega (arith, count-within STACK n) in
+      let back : suc (top - 1) ≡ top = omega arith in
+      stack-turn _ l h q (push-at cells l (top - 1) (omega arith) ∙ ap (λ (m : ℕ). l ∷ drop m cells) back ∙ ap (λ (r : List ℕ). l ∷ r) (sym p))
+
   pub stack-all : left ≤ 0 → pushed ≡ labelsFrom ns at count
   stack-all h =
       let none : at + left ≡ at = omega arith in
@@ -147,6 +154,9 @@ module _ (ns : List ℕ) (at left v p : ℕ) (held : left ≡ countOf STACK v) (
   pub stack-none : (pushed : List ℕ) → pushed ≡ [] → pushed ≡ labelsFrom ns at (countOf STACK (numberAt ns p) - left)
   stack-none pushed e = e ∙ sym (parts-none (numberAt ns) (λ q. q + 1) at (countOf STACK (numberAt ns p) - left) (omega (arith, all-left)))
 
+  pub all-cells-left : STACK + (countOf STACK (numberAt ns p) - left) ≡ STACK
+  all-cells-left = omega (arith, all-left)
+
   pub none-pushed : left ≤ countOf STACK (numberAt ns p)
   none-pushed = omega (arith, all-left)
 
@@ -154,7 +164,7 @@ module _ (ns : List ℕ) (at left v p : ℕ) (held : left ≡ countOf STACK v) (
 pub label-depth : (ns : List ℕ) (place k v : ℕ) → k ≡ countOf STACK v → v ≡ numberAt ns (place + 1) → k ≡ length (labelAt ns place .stack)
 label-depth ns place k v p q = p ∙ ap (countOf STACK) q ∙ sym (parts-length (numberAt ns) (λ p. p + 1) (place + 2) (countOf STACK (numberAt ns (place + 1))))
 
-pub ruleset pushings = (refl, stack-room, stack-turn, stack-all, stack-none, none-pushed, label-depth)
+pub ruleset pushings = (refl, count-within, stack-room, stack-turn, stack-written, stack-all, stack-none, all-cells-left, none-pushed, label-depth)
 
 pub ruleset sames = (refl, same-turn, same-differs, same-short, same-long, same-all)
 
@@ -191,8 +201,11 @@ module _ (registers : List Slot) (ns : List ℕ) (at left : ℕ) where
         ∙ ap (withListed registers) (next-register h)
         ∙ ap (λ (x : List Slot). withListed x (registersFrom ns (at + 3) (left - 1))) (sym (e ∙ (λ i. set registers (q i) (p i))))
 
+    pub listed-past : (n r : ℕ) → 0 < left → r ≡ numberAt ns at → length registers ≡ n → n ≤ r → answer ≡ withListed registers (registersFrom ns (at + 3) (left - 1))
+    listed-past n r h q w past = listed-turn registers _ r h refl q (sym (set-out registers r _ (omega arith)))
+
     pub listed-all : left ≤ 0 → registers ≡ answer
     unfolding withListed
     listed-all h = sym (inv ∙ ap (withListed registers) (no-register h))
 
-pub ruleset lists = (refl, met-turn, met-not, met-all, listed-turn, listed-all)
+pub ruleset lists = (refl, met-turn, met-not, met-all, listed-turn, listed-past, listed-all)

@@ -153,11 +153,15 @@ fn label_registers(numbers: &[u32], place: u32) -> [Slot; 16]
     let mut at = count + 1;
     let mut registers = no_registers();
     while 0 < left {
-        let s = listed_slot(numbers, at);
-        let next = with_slot(registers, number_at(numbers, at), s);
-        registers = next;
-        at += 3;
-        left -= 1;
+        let i = number_at(numbers, at) as usize;
+        if i < 16 {
+            registers[i] = listed_slot(numbers, at);
+            at += 3;
+            left -= 1;
+        } else {
+            at += 3;
+            left -= 1;
+        }
     }
     registers
 }
@@ -251,16 +255,14 @@ fn label_stack(numbers: &[u32], place: u32) -> Stack
 {
     let first = place as usize;
     let mut left = at_most(STACK, number_at(numbers, first + 1)) as usize;
-    let mut stack = Stack {
-        top: 16,
-        cells: [0; 16],
-    };
+    let mut top = 16;
+    let mut cells = [0; 16];
     while 0 < left {
         left -= 1;
-        let next = push(stack, number_at(numbers, first + 2 + left));
-        stack = next;
+        top -= 1;
+        cells[top] = number_at(numbers, first + 2 + left);
     }
-    stack
+    Stack { top, cells }
 }
 
 // A label's context.

@@ -11,4 +11,5 @@ pub mod CheckCall  -- vans_check: the checker
 pub mod EraseCall  -- vans_erase: the eraser on byte buffers
 pub mod Tasks  -- the calls on packets by their task
 pub mod CallLaws  -- for the proofs of the code of vans_check, vans_erase and the tasks
+pub mod Theorems  -- each label of an accepted listing has its address within the code
 pub mod Unique  -- any two results that meet the promise are equal
