@@ -10,6 +10,7 @@ pub mod CheckLaws  -- for the proofs of its code, and what it leaves in the buff
 pub mod HeldLaws  -- for the proofs of its code
 pub mod Tables  -- where the parts of a listing begin
 pub mod RowLaws  -- a row of premises, premise by premise, for the proofs of the code of the rules
+pub mod Writes  -- which register an item writes
 pub mod WalkLaws  -- for the proofs of the code of the walk
 pub mod Refusal  -- what a refusal says: the first place at which a premise fails, and the table's order there
 pub mod RefusalLaws  -- a refusal is the first, and a listing is accepted where every premise holds

@@ -15,11 +15,14 @@ use Rattle.listing.specs.Listing.{Field, LabelContext}
 use Rattle.listing.specs.Parts.{partsFrom, numberAt, countAt, itemOf, itemAt, behindItem, labelAt, behindLabel, labelsPlace, itemsPlace, shapesIn, labelsIn, itemsIn, listingIn}
 use Rattle.listing.specs.PartLaws.{parts-more, parts-none, parts-length}
 use Rattle.listing.specs.PlaceLaws.{ITEM-NUMBERS, TOP-ITEMS-PLACE}
+use Rattle.checker.specs.declared.contexts.Slot.{Slot}
+use Rattle.checker.specs.declared.items.Write.{Write}
 use Rattle.checker.specs.declared.blocks.Block.{Block}
 use Rattle.checker.specs.declared.blocks.Block.the-variants.{Start, Closed, Open}
 use Rattle.checker.specs.declared.walk.Verdict.{Verdict}
 use Rattle.checker.specs.Numbers.{NO-LABEL, PLACED-TWICE, FIRST-STACK, OPEN-END, NEVER-PLACED}
-use Rattle.checker.specs.Context.{Context, contextOf, noRegisters, entered, nowhere}
+use Rattle.checker.specs.Context.{typed, Context, contextOf, slotAt, noRegisters, entered, nowhere}
+use Rattle.checker.specs.Writes.{writeOf, written, writes}
 use Rattle.checker.specs.Rules.{Premise, firstFailing, jumpRow, rowOf, afterOf}
 use Rattle.checker.specs.Walk.{verdictOf, accepted, isLabel, labelIn, freeOf, placedAfter, blockAfter, dueRow, allFrom, isOpen, orElse, enterRow, labelRow, premisesOf, endRow, walkFrom, walkOf}
 
@@ -187,6 +190,13 @@ module _ (whole : Verdict) (ns : List ℕ) (shapes : List (List Field)) (labels 
             goes-on k as-other _ z
             (λ j. WalkFrom (sym s j) (i + 1) (sym q j) (sym p j) (sym (is-false (isLabel item) _ (set placed (labelIn item) true) placed (sym asked ∙ other) refl) j))
 
+        -- a register that the item writes
+        write-on : (w : Write) (registers : List Slot) (at′ : ℕ) → k ≡ 0 → w ≡ writeOf shapes (Γ .registers) item → w .at < 16
+            → registers ≡ set (Γ .registers) (w .at) (typed (w .kind) (w .level)) → at′ ≡ behindItem ns at → whole ≡ WalkFrom at′ (i + 1) Open (contextOf (Γ .level) (Γ .stack) registers) placed
+        write-on w registers at′ z p h s t =
+            let behind = writes belowOf joinOf shapes labels Γ item (omega (arith, ap (λ (x : Write). x .at) p)) in
+            other-turn (contextOf (Γ .level) (Γ .stack) registers) Open at′ z (ap (contextOf (Γ .level) (Γ .stack)) s ∙ ap (written Γ) p ∙ sym (behind .1)) (sym (behind .0)) t
+
         pub other-stop : (k ≡ 0 → ⊥) → verdictOf k i ≡ whole
         other-stop = stops k as-other
 
@@ -227,6 +237,18 @@ module _ (whole : Verdict) (ns : List ℕ) (shapes : List (List Field)) (labels 
         p
         ∙ ap (λ (x : ℕ). orElse (firstFailing (endRow x b placed)) i accepted) e
         ∙ sym (inv ∙ ap (λ (is : List Item). walkFrom belowOf joinOf shapes labels is i b Γ placed) (parts-none (itemAt ns) (behindItem ns) at (n - i) (omega arith)))
+
+-- the same of a context by its parts
+pub write-turn : (whole : Verdict) (ns : List ℕ) (shapes : List (List Field)) (labels : List LabelContext) (at i n : ℕ) (b : Block) (level : ℕ) (stack : List ℕ) (registers : List Slot) (placed : List Bool)
+    → whole ≡ walkFrom belowOf joinOf shapes labels (partsFrom (itemAt ns) (behindItem ns) at (n - i)) i b (contextOf level stack registers) placed
+    → i < n → (item : Item) → item ≡ itemAt ns at → (f : Bool) → f ≡ isLabel item → f ≡ false
+    → (k : ℕ) → k ≡ firstFailing (dueRow b (rowOf belowOf joinOf shapes labels (contextOf level stack registers) item)) → k ≡ 0
+    → (w : Write) (rd : ℕ) (registers′ : List Slot) (at′ : ℕ) → w ≡ writeOf shapes registers item → rd ≡ w .at → rd < 16
+    → registers′ ≡ set registers rd (typed (w .kind) (w .level)) → at′ ≡ behindItem ns at
+    → whole ≡ walkFrom belowOf joinOf shapes labels (partsFrom (itemAt ns) (behindItem ns) at′ (n - (i + 1))) (i + 1) Open (contextOf level stack registers′) placed
+write-turn whole ns shapes labels at i n b level stack registers placed inv left item read f asked other k refusal z w rd registers′ at′ p q h s =
+    write-on whole ns shapes labels at i n b (contextOf level stack registers) placed inv left item read f asked other k refusal w registers′ at′ z p (omega (arith, q))
+    (s ∙ ap (λ (x : ℕ). set registers x (typed (w .kind) (w .level))) q)
 
 -- where the loop begins
 pub walk-begins : (ns : List ℕ) (count place : ℕ) (Γ : Context) (placed : List Bool) → place ≡ itemsPlace ns → count ≡ countAt ITEMS ns place → Γ ≡ contextOf 0 [] noRegisters → placed ≡ replicate LABELS false

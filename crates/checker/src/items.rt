@@ -29,6 +29,7 @@ ghost use Rattle.listing.specs.Parts.{shapesIn, labelsIn};
 ghost use Rattle.checker.specs.Context.{INTEGER, typed, contextOf, slotAt, fieldOf};
 ghost use Rattle.checker.specs.Rules.{firstFailing, rowOf, afterOf};
 ghost use Rattle.checker.specs.Held.{stackIn, contextIn};
+ghost use Rattle.checker.specs.Writes.{writeKind, noWrite, writeOf};
 ghost use Rattle.checker.specs.Tables.{shapeTable, labelTable};
 
 // The first refusal of an item, 0 for none; a label is fallen into.
@@ -98,6 +99,56 @@ fn loaded_kind(c: Held, rs: u32, field: u32, numbers: &[u32], shapes: &[u32; 64]
     let registers = c.registers;
     let s = slot_at(registers, rs);
     field_kind(numbers, shape_place(numbers, shapes, s.kind), field)
+}
+
+// A register that an item writes, 16 for none, and what is then said of it.
+pub struct Write {
+    pub at: u32,
+    pub kind: u8,
+    pub level: u8,
+}
+
+// Another kind of a register, whose level stays.
+fn write_kind(c: Held, rd: u32, kind: u8) -> Write
+    ensures { λ r. ⌜ r ≡ writeKind (c .registers) rd kind ⌝ }
+{
+    let registers = c.registers;
+    let d = slot_at(registers, rd);
+    Write {
+        at: rd,
+        kind,
+        level: d.level,
+    }
+}
+
+fn no_write() -> Write
+    ensures { λ r. ⌜ r ≡ noWrite ⌝ }
+{
+    Write {
+        at: 16,
+        kind: 0,
+        level: 0,
+    }
+}
+
+// What arithmetic or a load writes.
+pub fn write_of(c: Held, item: Item, numbers: &[u32], shapes: &[u32; 64]) -> Write
+    requires { ⌜ length (now numbers) ≤ BYTES ⌝ }
+    requires { ⌜ now shapes ≡ shapeTable (now numbers) ⌝ }
+    ensures { λ r. ⌜ r ≡ writeOf (shapesIn (now (numbers .entry))) (c .registers) item ⌝ }
+{
+    match item {
+        Item::Load(rd, rs, field) => write_kind(c, rd, loaded_kind(c, rs, field, numbers, shapes)),
+        Item::Compute(_, rd, _, _) => write_kind(c, rd, 0),
+        Item::ComputeImmediate(_, rd, _, _) => write_kind(c, rd, 0),
+        Item::Halt => no_write(),
+        Item::Jmp(_) => no_write(),
+        Item::Bnz(_, _) => no_write(),
+        Item::Store(_, _, _) => no_write(),
+        Item::Cpush(_) => no_write(),
+        Item::Cjmp(_) => no_write(),
+        Item::Label(_) => no_write(),
+    }
 }
 
 // The context with a label on top of its stack.

@@ -5,9 +5,11 @@ use crate::blocks::is_closed;
 use crate::blocks::is_label;
 use crate::blocks::item_fault;
 use crate::blocks::label_fault;
+use crate::contexts::Slot;
 use crate::contexts::enter;
 use crate::contexts::nothing;
 use crate::items::held_after;
+use crate::items::write_of;
 use crate::numbers::NEVER_PLACED;
 use crate::numbers::OPEN_END;
 use crate::placed::all_placed;
@@ -107,11 +109,24 @@ fn walk_items(
         } else {
             let k = item_fault(block, held, item, numbers, shapes, labels);
             if k == 0 {
-                let after = held_after(held, item, numbers, shapes, labels);
-                held = after;
-                block = block_after(item);
-                at = behind_item(numbers, at);
-                i += 1;
+                let write = write_of(held, item, numbers, shapes);
+                let rd = write.at as usize;
+                if rd < 16 {
+                    held.registers[rd] = Slot {
+                        listed: true,
+                        kind: write.kind,
+                        level: write.level,
+                    };
+                    block = Block::Open;
+                    at = behind_item(numbers, at);
+                    i += 1;
+                } else {
+                    let after = held_after(held, item, numbers, shapes, labels);
+                    held = after;
+                    block = block_after(item);
+                    at = behind_item(numbers, at);
+                    i += 1;
+                }
             } else {
                 return Verdict {
                     number: k,

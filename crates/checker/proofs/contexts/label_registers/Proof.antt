@@ -18,7 +18,7 @@ use Rattle.listing.proofs.at_most.Reads as at-most-reads
 use Rattle.listing.proofs.number_at.Reads as number-at-reads
 
 abbrev Inv-loop : tie.InvT-loop
-Inv-loop numbers place count left₀ at₀ registers₀ left at registers = 
+Inv-loop numbers place count left₀ at₀ registers₀ left at registers =
     (withListed noRegisters (labelAt numbers place .registers) ≡ withListed registers (partsFrom (registerAt numbers) (λ p. p + 3) at left))
     × (at + left * 3 ≤ at₀ + left₀ * 3)
     × (length registers ≡ 16)

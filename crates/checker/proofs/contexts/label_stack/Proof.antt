@@ -15,7 +15,7 @@ use Rattle.listing.proofs.at_most.Reads as at-most-reads
 use Rattle.listing.proofs.number_at.Reads as number-at-reads
 
 abbrev Inv-loop : tie.InvT-loop
-Inv-loop numbers place first left₀ top₀ cells₀ left top cells = 
+Inv-loop numbers place first left₀ top₀ cells₀ left top cells =
     (drop top cells ≡ partsFrom (numberAt numbers) (λ p. p + 1) (place + 2 + left) (countAt STACK numbers (place + 1) - left))
     × (left ≤ countAt STACK numbers (place + 1))
     × (top + (countAt STACK numbers (place + 1) - left) ≡ STACK)
