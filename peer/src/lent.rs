@@ -2,7 +2,7 @@
 
 use std::ops::Range;
 
-const GUARD: usize = 64;
+pub const GUARD: usize = 64;
 
 pub struct Lent {
     bytes: Vec<u8>,
@@ -34,6 +34,6 @@ impl Lent {
 }
 
 /// The guard byte at a place; no two neighbours are equal, so a shifted copy shows.
-fn guard(place: usize) -> u8 {
+pub fn guard(place: usize) -> u8 {
     (place as u8).wrapping_mul(37) ^ 0xa5
 }

@@ -1,14 +1,21 @@
-//! The second program: the packet reader and the bare machine with their calls on
-//! byte buffers, written from 01 alone, and the proved calls beside them. Read
-//! `packet` and `machine` first, then `read_call` and `run_call`; `tests/packet`
-//! and `tests/run_call` compare the calls, `bin/bench` times them.
+//! The second program: the packet reader, the checker, the eraser and the bare
+//! machine with their calls on byte buffers, written from 01 alone, and the proved
+//! calls beside them. Read `packet`, `listing`, `checker`, `eraser` and `machine`
+//! first, then `read_call`, `check_call`, `erase_call` and `run_call`;
+//! `tests/packet`, `tests/listing` and `tests/run_call` compare the calls,
+//! `bin/bench` times them.
 
 #![deny(unsafe_code)]
 
 pub mod answer;
 pub mod bytes;
 pub mod cases;
+pub mod check_call;
+pub mod checker;
+pub mod erase_call;
+pub mod eraser;
 pub mod lent;
+pub mod listing;
 pub mod machine;
 pub mod packet;
 pub mod proved;

@@ -1,4 +1,4 @@
--- What the checker accepts and refuses. To believe it, read Numbers, Context, Rules and Walk, and for the theorems Judgement and Theorems; the rest are laws.
+-- What the checker accepts and refuses. To believe it, read Numbers, Context, Rules and Walk, and for the theorems Judgement, Refusal and Theorems; the rest are laws.
 pub mod Numbers  -- refusals, each named once
 pub mod Context  -- the current context
 pub mod Rules  -- for each item its premises in the table's order, and the context behind it
@@ -19,3 +19,4 @@ pub mod PlacedLaws  -- each label is placed once, by the array of placed labels
 pub mod TypingLaws  -- the premises of an item are those of its rule
 pub mod AcceptedLaws  -- a walk whose every premise holds is a derivation
 pub mod Theorems  -- a listing is accepted exactly where it is well typed, and a refusal is the first
+pub mod Unique  -- any two results that meet the promise are equal

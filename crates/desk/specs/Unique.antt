@@ -5,6 +5,7 @@ use mathlib.Core.List.{List}
 use Rattle.desk.specs.RunCall.{RunCall, runCall, vansRunOf}
 use Rattle.desk.specs.PacketCall.{PacketCall, packetCall}
 use Rattle.desk.specs.ReadCall.{vansReadOf}
+use Rattle.desk.specs.EraseCall.{vansEraseOf}
 
 pub vans-run-unique : (code heap regs : List ℕ) (budget a a′ : ℕ) (heap₁ heap₂ regs₁ regs₂ : List ℕ)
     → runCall a heap₁ regs₁ ≡ vansRunOf code heap regs budget → runCall a′ heap₂ regs₂ ≡ vansRunOf code heap regs budget
@@ -12,7 +13,14 @@ pub vans-run-unique : (code heap regs : List ℕ) (budget a a′ : ℕ) (heap₁
 vans-run-unique code heap regs budget a a′ heap₁ heap₂ regs₁ regs₂ p q =
     (ap (λ (c : RunCall). c .answer) (p ∙ sym q), ap (λ (c : RunCall). c .heap) (p ∙ sym q), ap (λ (c : RunCall). c .regs) (p ∙ sym q))
 
+-- two calls on a packet that leave the same record
+same-call : (c : PacketCall) (a a′ : ℕ) (out out′ : List ℕ) → packetCall a out ≡ c → packetCall a′ out′ ≡ c → (a ≡ a′) × (out ≡ out′)
+same-call c a a′ out out′ p q = (ap (λ (x : PacketCall). x .answer) (p ∙ sym q), ap (λ (x : PacketCall). x .out) (p ∙ sym q))
+
 pub vans-read-unique : (packet numbers : List ℕ) (a a′ : ℕ) (numbers₁ numbers₂ : List ℕ)
     → packetCall a numbers₁ ≡ vansReadOf packet numbers → packetCall a′ numbers₂ ≡ vansReadOf packet numbers → (a ≡ a′) × (numbers₁ ≡ numbers₂)
-vans-read-unique packet numbers a a′ numbers₁ numbers₂ p q =
-    (ap (λ (c : PacketCall). c .answer) (p ∙ sym q), ap (λ (c : PacketCall). c .out) (p ∙ sym q))
+vans-read-unique packet numbers = same-call (vansReadOf packet numbers)
+
+pub vans-erase-unique : (packet code : List ℕ) (a a′ : ℕ) (code₁ code₂ : List ℕ)
+    → packetCall a code₁ ≡ vansEraseOf packet code → packetCall a′ code₂ ≡ vansEraseOf packet code → (a ≡ a′) × (code₁ ≡ code₂)
+vans-erase-unique packet code = same-call (vansEraseOf packet code)

@@ -1,5 +1,6 @@
 //! Cases for the comparisons, a folder for each call: what is lent, made from a
 //! seed and a number.
 
+pub mod listing;
 pub mod packet;
 pub mod run;

@@ -19,9 +19,9 @@ const LAST_LEVEL: u32 = 255;
 const LAST_IMMEDIATE: u32 = 65_535;
 
 /// The items above the opcodes.
-const CPUSH: u32 = 15;
-const CJMP: u32 = 16;
-const LABEL: u32 = 17;
+pub const CPUSH: u32 = 15;
+pub const CJMP: u32 = 16;
+pub const LABEL: u32 = 17;
 
 /// The numbers of the largest listing.
 pub const MOST_NUMBERS: usize = {

@@ -1,12 +1,15 @@
-//! The proved library's calls. This is the only folder with `unsafe`, for one
-//! reason everywhere: each pointer and length come from one live slice; they are
-//! not null even at length 0, and a written slice overlaps nothing. The library
-//! keeps no pointer after it returns.
+//! The proved library's calls. The library is for x86-64: there it is linked.
+//! Elsewhere it runs under the kit's emulator, in a process of its own.
 
-#![allow(unsafe_code)]
+#[cfg(not(target_arch = "x86_64"))]
+mod bridged;
+#[cfg(target_arch = "x86_64")]
+mod linked;
 
-mod read;
-mod run;
+#[cfg(not(target_arch = "x86_64"))]
+pub use bridged::*;
+#[cfg(target_arch = "x86_64")]
+pub use linked::*;
 
-pub use read::vans_read;
-pub use run::vans_run;
+/// Whether the calls are made on the processor itself, so that their times mean something.
+pub const LINKED: bool = cfg!(target_arch = "x86_64");

@@ -1,17 +1,26 @@
 //! Times the proved calls and the peer's side by side: the best of several
 //! alternating rounds of each, and their ratio.
 
+mod check;
 mod read;
 mod run;
 
+use peer::proved;
 use std::time::Instant;
 
 const ROUNDS: u32 = 30;
 
 fn main() {
+    if !proved::LINKED {
+        println!(
+            "The proved library runs under an emulator here, where times say nothing: no figures."
+        );
+        return;
+    }
     println!("{:<48}{:>10}{:>10}{:>8}", "best, in nanoseconds", "proved", "peer", "ratio");
     run::rows();
     read::rows();
+    check::rows();
 }
 
 /// Measures and prints a row of the table.

@@ -1,6 +1,6 @@
 //! Cases for the packet reader: a packet, and a buffer for its numbers.
 
-mod damage;
+pub mod damage;
 pub mod listings;
 pub mod pieces;
 
@@ -23,7 +23,7 @@ impl Case {
     }
 }
 
-fn any_packet(random: &mut Random) -> Vec<u8> {
+pub fn any_packet(random: &mut Random) -> Vec<u8> {
     match random.below(100) {
         0..=90 => from_listing(random),
         91..=94 => junk(random),

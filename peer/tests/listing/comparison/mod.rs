@@ -1,0 +1,105 @@
+//! `vans_check` and `vans_erase` against the second program: the same answers and
+//! the same bytes on many listings. PEER_SEED chooses another set; a case is named
+//! by seed and number.
+
+mod parts;
+mod refusals;
+mod tally;
+
+use peer::answer::unpack;
+use peer::cases::listing::Case;
+use peer::cases::packet::pieces::K1;
+use peer::lent::Lent;
+use peer::{check_call, erase_call, proved, random};
+use tally::Tally;
+
+const CASES: u64 = 200_000;
+
+/// What the calls answer and leave in the buffer that one of them may write.
+#[derive(PartialEq)]
+struct Effect {
+    check: u64,
+    erase: u64,
+    code: Vec<u8>,
+}
+
+#[test]
+fn proved_and_peer_agree() {
+    let seed = random::seed();
+    let mut tally = Tally::default();
+    for number in 0..CASES {
+        let case = Case::new(seed, number);
+        // The buffers start at every alignment: the calls take bytes.
+        let effect = agreed(&case, number as usize % 4)
+            .unwrap_or_else(|difference| panic!("seed {seed}, case {number}: {difference}"));
+        tally.add(&case, effect.check, effect.erase);
+    }
+    println!("{CASES} cases agree\n{tally}");
+    tally.assert_full();
+}
+
+#[test]
+fn they_agree_on_k1_with_any_byte_changed_or_put_in() {
+    for place in 0..K1.len() {
+        for byte in 0..=255 {
+            for tail in [place, place + 1] {
+                let packet = [&K1[..place], &[byte], &K1[tail..]].concat();
+                let case = Case { packet, code: vec![0xa5; K1.len()] };
+                agreed(&case, 0).unwrap_or_else(|difference| panic!("{difference}"));
+            }
+        }
+    }
+}
+
+/// The effect of both programs' calls; the error says where they differ.
+fn agreed(case: &Case, shift: usize) -> Result<Effect, String> {
+    let expected = by_peer(case);
+    let found = by_proved(case, shift);
+    if found.as_ref() == Ok(&expected) {
+        Ok(expected)
+    } else {
+        Err(report(case, &expected, &found))
+    }
+}
+
+fn by_peer(case: &Case) -> Effect {
+    let check = check_call::check(&case.packet);
+    let mut code = case.code.clone();
+    let erase = erase_call::erase(&case.packet, &mut code);
+    Effect { check, erase, code }
+}
+
+/// The error names a byte that the calls had no right to write.
+fn by_proved(case: &Case, shift: usize) -> Result<Effect, &'static str> {
+    let packet = Lent::new(&case.packet, shift);
+    let mut code = Lent::new(&case.code, shift + 1);
+    let check = proved::vans_check(packet.inside());
+    let erase = proved::vans_erase(packet.inside(), code.inside_mut());
+    if !(packet.guards_hold() && code.guards_hold()) {
+        return Err("wrote outside a buffer");
+    }
+    if packet.inside() != case.packet {
+        return Err("wrote the packet");
+    }
+    Ok(Effect { check, erase, code: code.inside().to_vec() })
+}
+
+fn report(case: &Case, expected: &Effect, found: &Result<Effect, &'static str>) -> String {
+    let difference = match found {
+        Err(fault) => fault.to_string(),
+        Ok(found) => format!(
+            "check: peer {:?}, vans_check {:?}; erase: peer {:?}, vans_erase {:?} (number, place, count); first different byte {:?}",
+            unpack(expected.check),
+            unpack(found.check),
+            unpack(expected.erase),
+            unpack(found.erase),
+            expected.code.iter().zip(&found.code).position(|(a, b)| a != b),
+        ),
+    };
+    format!(
+        "{difference}\n buffer of {} bytes\n packet of {} bytes: {:02x?}",
+        case.code.len(),
+        case.packet.len(),
+        case.packet,
+    )
+}
