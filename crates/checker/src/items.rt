@@ -109,14 +109,14 @@ pub struct Write {
 }
 
 // Another kind of a register, whose level stays.
-fn write_kind(c: Held, rd: u32, kind: u8) -> Write
-    ensures { λ r. ⌜ r ≡ writeKind (c .registers) rd kind ⌝ }
+fn write_kind(c: Held, rd: u32, to: u8) -> Write
+    ensures { λ r. ⌜ r ≡ writeKind (c .registers) rd to ⌝ }
 {
     let registers = c.registers;
     let d = slot_at(registers, rd);
     Write {
         at: rd,
-        kind,
+        kind: to,
         level: d.level,
     }
 }
@@ -166,7 +166,7 @@ fn pushed(c: Held, l: u32) -> Held
     }
 }
 
-// The context behind an item that is not refused.
+// The context behind an item that is not refused. The walk asks for it where no register is written.
 pub fn held_after(
     c: Held,
     item: Item,
