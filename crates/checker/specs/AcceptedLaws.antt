@@ -38,17 +38,17 @@ module _ (_⊑_ : ℕ → ℕ → Bool) (_⊔_ : ℕ → ℕ → ℕ) (shapes : 
   -- the items from a state on, and the end
   holds-typed : (items : List Item) (s : State) → Each (ItemRange (length labels)) items → length labels ≤ length (s .placed)
       → (AllHold _⊑_ _⊔_ shapes labels s items × Holds (rowAt _⊑_ _⊔_ shapes labels (reached _⊑_ _⊔_ shapes labels s items) []))
-      ↔ (Begins _⊑_ _⊔_ shapes labels (s .block) items × Typed _⊑_ _⊔_ shapes labels (nowOf (s .block) (s .context)) items × Owed _⊑_ _⊔_ (length labels) (s .placed) items)
+      ↔ (Begins _⊑_ _⊔_ shapes labels (s .block) items × Typed _⊑_ _⊔_ shapes labels (nowOf (s .block) (s .context)) items × Owed (length labels) (s .placed) items)
   unfolding reached rowAt
   holds-typed [] s ranges room =
       let ended = typed-end _⊑_ _⊔_ shapes labels (s .block) (s .context) in
-      let placed = placed-end _⊑_ _⊔_ (length labels) (s .placed) in (
+      let placed = placed-end (length labels) (s .placed) in (
         λ x. let y = ended .0 (x .1 .0) in (y .0, y .1, placed .0 (x .1 .1 .0)),
         λ y. (tt, (ended .1 (y .0, y .1), (placed .1 (y .2), tt))),
       )
   holds-typed (i ∷ is) s ranges room =
       let here = typed-step _⊑_ _⊔_ shapes labels (s .block) (s .context) (s .placed) is i in
-      let placed = placed-step _⊑_ _⊔_ (length labels) (s .placed) is room i (ranges .0) in
+      let placed = placed-step (length labels) (s .placed) is room i (ranges .0) in
       let rest = holds-typed is (behind _⊑_ _⊔_ shapes labels s i) (ranges .1) (omega (arith, placed-length (s .placed) i)) in (
         λ x.
             let later = rest .0 (x .0 .1, x .1) in

@@ -71,88 +71,87 @@ all-from placed i (suc n) = (
     shifted : (i k : ℕ) → i + suc k ≡ i + 1 + k
     shifted i k = omega arith
 
-module _ (_⊑_ : ℕ → ℕ → Bool) (_⊔_ : ℕ → ℕ → ℕ) where
-  -- an item that is no label, and places none
-  pub record Plain (i : Item) : Type 0 where
-    pub no-label : isLabel i ≡ false
-    pub places-none : (k : ℕ) (P : List Item) → placings k (i ∷ P) ≡ placings k P
+-- an item that is no label, and places none
+pub record Plain (i : Item) : Type 0 where
+  pub no-label : isLabel i ≡ false
+  pub places-none : (k : ℕ) (P : List Item) → placings k (i ∷ P) ≡ placings k P
 
-  -- what holds of a label and of a plain item holds of every item
-  pub by-label : (Q : Item → Type 0) → ((l : ℕ) → Q (Label l)) → ((i : Item) → Plain i → Q i) → (i : Item) → Q i
-  unfolding isLabel placings
-  by-label Q label plain Halt = plain Halt (record { no-label = refl; places-none = λ k P. refl })
-  by-label Q label plain (Jmp l) = plain (Jmp l) (record { no-label = refl; places-none = λ k P. refl })
-  by-label Q label plain (Bnz rs l) = plain (Bnz rs l) (record { no-label = refl; places-none = λ k P. refl })
-  by-label Q label plain (Load rd rs c) = plain (Load rd rs c) (record { no-label = refl; places-none = λ k P. refl })
-  by-label Q label plain (Store rd c rs) = plain (Store rd c rs) (record { no-label = refl; places-none = λ k P. refl })
-  by-label Q label plain (Compute op rd rs rt) = plain (Compute op rd rs rt) (record { no-label = refl; places-none = λ k P. refl })
-  by-label Q label plain (ComputeImmediate op rd rs n) = plain (ComputeImmediate op rd rs n) (record { no-label = refl; places-none = λ k P. refl })
-  by-label Q label plain (Cpush l) = plain (Cpush l) (record { no-label = refl; places-none = λ k P. refl })
-  by-label Q label plain (Cjmp l) = plain (Cjmp l) (record { no-label = refl; places-none = λ k P. refl })
-  by-label Q label plain (Label l) = label l
+-- what holds of a label and of a plain item holds of every item
+pub by-label : (Q : Item → Type 0) → ((l : ℕ) → Q (Label l)) → ((i : Item) → Plain i → Q i) → (i : Item) → Q i
+unfolding isLabel placings
+by-label Q label plain Halt = plain Halt (record { no-label = refl; places-none = λ k P. refl })
+by-label Q label plain (Jmp l) = plain (Jmp l) (record { no-label = refl; places-none = λ k P. refl })
+by-label Q label plain (Bnz rs l) = plain (Bnz rs l) (record { no-label = refl; places-none = λ k P. refl })
+by-label Q label plain (Load rd rs c) = plain (Load rd rs c) (record { no-label = refl; places-none = λ k P. refl })
+by-label Q label plain (Store rd c rs) = plain (Store rd c rs) (record { no-label = refl; places-none = λ k P. refl })
+by-label Q label plain (Compute op rd rs rt) = plain (Compute op rd rs rt) (record { no-label = refl; places-none = λ k P. refl })
+by-label Q label plain (ComputeImmediate op rd rs n) = plain (ComputeImmediate op rd rs n) (record { no-label = refl; places-none = λ k P. refl })
+by-label Q label plain (Cpush l) = plain (Cpush l) (record { no-label = refl; places-none = λ k P. refl })
+by-label Q label plain (Cjmp l) = plain (Cjmp l) (record { no-label = refl; places-none = λ k P. refl })
+by-label Q label plain (Label l) = label l
 
-  -- of n labels, each is placed as often as it is still to be placed
-  abbrev pub Owed : ℕ → List Bool → List Item → Type 0
-  Owed n placed P = (k : ℕ) → k < n → placings k P ≡ toPlace (getD placed k false)
+-- of n labels, each is placed as often as it is still to be placed
+abbrev pub Owed : ℕ → List Bool → List Item → Type 0
+Owed n placed P = (k : ℕ) → k < n → placings k P ≡ toPlace (getD placed k false)
 
-  pub placed-end : (n : ℕ) (placed : List Bool) → (allFrom placed 0 n ≡ true) ↔ Owed n placed []
-  unfolding placings
-  placed-end n placed = (
-    λ e k h. none-to-place (getD placed k false) .0 (rw zero-add at (all-from placed 0 n .0 e k h)),
-    λ o. all-from placed 0 n .1 (λ k h. rw zero-add (none-to-place (getD placed k false) .1 (o k h))),
+pub placed-end : (n : ℕ) (placed : List Bool) → (allFrom placed 0 n ≡ true) ↔ Owed n placed []
+unfolding placings
+placed-end n placed = (
+  λ e k h. none-to-place (getD placed k false) .0 (rw zero-add at (all-from placed 0 n .0 e k h)),
+  λ o. all-from placed 0 n .1 (λ k h. rw zero-add (none-to-place (getD placed k false) .1 (o k h))),
+)
+
+-- a label is placed once by its own item, and by no other
+here-placed : (l : ℕ) (P : List Item) → placings l (Label l ∷ P) ≡ suc (placings l P)
+unfolding placings
+here-placed l P = let e : pick {A = ℕ} (eqb l l) 1 0 ≡ 1 = sym (is-equal l l 1 1 0 refl refl) in omega arith
+
+other-placed : (l k : ℕ) (P : List Item) → (l ≡ k → ⊥) → placings k (Label l ∷ P) ≡ placings k P
+unfolding placings
+other-placed l k P d = let e : pick {A = ℕ} (eqb l k) 1 0 ≡ 0 = sym (not-equal l k 0 1 0 d refl) in omega arith
+
+-- what a label that is placed leaves to be placed
+module _ (n l : ℕ) (placed : List Bool) (P : List Item) (in-range : l < n) (room : n ≤ length placed) where
+  here-after : toPlace (getD (set placed l true) l false) ≡ 0
+  unfolding pick
+  here-after = ap toPlace (getD-set-same placed l true false (omega arith))
+
+  other-after : (k : ℕ) → (l ≡ k → ⊥) → toPlace (getD (set placed l true) k false) ≡ toPlace (getD placed k false)
+  other-after k d = ap toPlace (getD-set-other placed l k true false (λ e. d (sym e)))
+
+  label-owed : Owed n placed (Label l ∷ P) ↔ ((freeOf placed l ≡ true) × Owed n (set placed l true) P)
+  label-owed = (
+    λ o.
+        let one : (freeOf placed l ≡ true) × (placings l P ≡ 0) = free-to-place (getD placed l false) (placings l P) (sym (here-placed l P) ∙ o l in-range) in (
+          one .0,
+          λ k b. here-or-other (λ (k : ℕ). placings k P ≡ toPlace (getD (set placed l true) k false)) l k (one .1 ∙ sym here-after)
+              (λ d. sym (other-placed l k P d) ∙ o k b ∙ sym (other-after k d)),
+        ),
+    λ h k b. here-or-other (λ (k : ℕ). placings k (Label l ∷ P) ≡ toPlace (getD placed k false)) l k
+        (here-placed l P ∙ ap suc (h .1 l in-range ∙ here-after) ∙ sym (to-place-free (getD placed l false) (h .0)))
+        (λ d. other-placed l k P d ∙ h .1 k b ∙ other-after k d),
   )
 
-  -- a label is placed once by its own item, and by no other
-  here-placed : (l : ℕ) (P : List Item) → placings l (Label l ∷ P) ≡ suc (placings l P)
-  unfolding placings
-  here-placed l P = let e : pick {A = ℕ} (eqb l l) 1 0 ≡ 1 = sym (is-equal l l 1 1 0 refl refl) in omega arith
-
-  other-placed : (l k : ℕ) (P : List Item) → (l ≡ k → ⊥) → placings k (Label l ∷ P) ≡ placings k P
-  unfolding placings
-  other-placed l k P d = let e : pick {A = ℕ} (eqb l k) 1 0 ≡ 0 = sym (not-equal l k 0 1 0 d refl) in omega arith
-
-  -- what a label that is placed leaves to be placed
-  module _ (n l : ℕ) (placed : List Bool) (P : List Item) (in-range : l < n) (room : n ≤ length placed) where
-    here-after : toPlace (getD (set placed l true) l false) ≡ 0
-    unfolding pick
-    here-after = ap toPlace (getD-set-same placed l true false (omega arith))
-
-    other-after : (k : ℕ) → (l ≡ k → ⊥) → toPlace (getD (set placed l true) k false) ≡ toPlace (getD placed k false)
-    other-after k d = ap toPlace (getD-set-other placed l k true false (λ e. d (sym e)))
-
-    label-owed : Owed n placed (Label l ∷ P) ↔ ((freeOf placed l ≡ true) × Owed n (set placed l true) P)
-    label-owed = (
-      λ o.
-          let one : (freeOf placed l ≡ true) × (placings l P ≡ 0) = free-to-place (getD placed l false) (placings l P) (sym (here-placed l P) ∙ o l in-range) in (
-            one .0,
-            λ k b. here-or-other (λ (k : ℕ). placings k P ≡ toPlace (getD (set placed l true) k false)) l k (one .1 ∙ sym here-after)
-                (λ d. sym (other-placed l k P d) ∙ o k b ∙ sym (other-after k d)),
-          ),
-      λ h k b. here-or-other (λ (k : ℕ). placings k (Label l ∷ P) ≡ toPlace (getD placed k false)) l k
-          (here-placed l P ∙ ap suc (h .1 l in-range ∙ here-after) ∙ sym (to-place-free (getD placed l false) (h .0)))
-          (λ d. other-placed l k P d ∙ h .1 k b ∙ other-after k d),
+plain-owed : (n : ℕ) (i : Item) (placed : List Bool) (P : List Item) → Plain i → Owed n placed (i ∷ P) ↔ Owed n (placedAfter placed i) P
+plain-owed n i placed P plain =
+    let same : placed ≡ placedAfter placed i = is-false (isLabel i) placed _ placed (plain .no-label) refl in (
+      λ o k b. sym (plain .places-none k P) ∙ o k b ∙ ap (λ (l : List Bool). toPlace (getD l k false)) same,
+      λ o k b. plain .places-none k P ∙ o k b ∙ ap (λ (l : List Bool). toPlace (getD l k false)) (sym same),
     )
 
-  plain-owed : (n : ℕ) (i : Item) (placed : List Bool) (P : List Item) → Plain i → Owed n placed (i ∷ P) ↔ Owed n (placedAfter placed i) P
-  plain-owed n i placed P plain =
-      let same : placed ≡ placedAfter placed i = is-false (isLabel i) placed _ placed (plain .no-label) refl in (
-        λ o k b. sym (plain .places-none k P) ∙ o k b ∙ ap (λ (l : List Bool). toPlace (getD l k false)) same,
-        λ o k b. plain .places-none k P ∙ o k b ∙ ap (λ (l : List Bool). toPlace (getD l k false)) (sym same),
-      )
+-- an item that is passed: a label is free, and what is still to be placed is what is left
+abbrev pub Passing : ℕ → List Bool → List Item → Item → Type 0
+Passing n placed P i = Owed n placed (i ∷ P) ↔ ((isLabel i ≡ true → freeOf placed (labelIn i) ≡ true) × Owed n (placedAfter placed i) P)
 
-  -- an item that is passed: a label is free, and what is still to be placed is what is left
-  abbrev pub Passing : ℕ → List Bool → List Item → Item → Type 0
-  Passing n placed P i = Owed n placed (i ∷ P) ↔ ((isLabel i ≡ true → freeOf placed (labelIn i) ≡ true) × Owed n (placedAfter placed i) P)
-
-  pub placed-step : (n : ℕ) (placed : List Bool) (P : List Item) → n ≤ length placed → (i : Item) → ItemRange n i → Passing n placed P i
-  unfolding isLabel labelIn pick
-  placed-step n placed P room =
-      by-label (λ (i : Item). ItemRange n i → Passing n placed P i)
-      (λ l h. (
-        λ o. let x = label-owed n l placed P h room .0 o in (λ e. x .0, x .1),
-        λ x. label-owed n l placed P h room .1 (x .0 refl, x .1),
-      ))
-      (λ i plain h. (
-        λ o. (λ e. absurd (true≢false (sym e ∙ plain .no-label)), plain-owed n i placed P plain .0 o),
-        λ x. plain-owed n i placed P plain .1 (x .1),
-      ))
+pub placed-step : (n : ℕ) (placed : List Bool) (P : List Item) → n ≤ length placed → (i : Item) → ItemRange n i → Passing n placed P i
+unfolding isLabel labelIn pick
+placed-step n placed P room =
+    by-label (λ (i : Item). ItemRange n i → Passing n placed P i)
+    (λ l h. (
+      λ o. let x = label-owed n l placed P h room .0 o in (λ e. x .0, x .1),
+      λ x. label-owed n l placed P h room .1 (x .0 refl, x .1),
+    ))
+    (λ i plain h. (
+      λ o. (λ e. absurd (true≢false (sym e ∙ plain .no-label)), plain-owed n i placed P plain .0 o),
+      λ x. plain-owed n i placed P plain .1 (x .1),
+    ))

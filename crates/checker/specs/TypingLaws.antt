@@ -146,7 +146,7 @@ module _ (_⊑_ : ℕ → ℕ → Bool) (_⊔_ : ℕ → ℕ → ℕ) where
     pub typed-step : (b : Block) (Γ : Context) (placed : List Bool) (P : List Item) (i : Item) → Step b Γ placed P i
     unfolding premisesOf isLabel labelIn pick afterOf blockAfter nowOf
     typed-step b Γ placed P =
-        by-label _⊑_ _⊔_ (Step b Γ placed P)
+        by-label (Step b Γ placed P)
         (λ l.
         let h = label-step b Γ (freeOf placed l) l P in (
           λ x. let y = h .0 x in (λ e. y .0, y .1, y .2),

@@ -92,44 +92,43 @@ module _ (k : ℕ) where
   unfolding isLabel
   plain i f p = inr ((λ e. let x : _≡_ {A = Bool} true false = ap isLabel (sym e) ∙ f in let z : _≡_ {A = ℕ} 0 1 = cc in absurd (omega arith)), p)
 
-  places : (_⊑_ : ℕ → ℕ → Bool) (_⊔_ : ℕ → ℕ → ℕ) (i : Item) → Places i
-  places _⊑_ _⊔_ =
-      by-label _⊑_ _⊔_ Places
+  places : (i : Item) → Places i
+  places =
+      by-label Places
       (λ l. elim (ℕ-discrete l k) [ yes e ↦ inl (ap Label e) | no d ↦ inr ((λ e. d (label-injective e)), λ P. placed-no-more l P d) ])
       (λ i p. plain i (p .no-label) (p .places-none k))
     where
       label-injective : {l : ℕ} → Label l ≡ Label k → l ≡ k
       label-injective e = cc
 
-  module _ (_⊑_ : ℕ → ℕ → Bool) (_⊔_ : ℕ → ℕ → ℕ) where
-    none-unplaced : (P : List Item) → placings k P ≡ 0 → Unplaced k P
-    none-unplaced [] e = tt
-    none-unplaced (i ∷ P) e =
-        elim (places _⊑_ _⊔_ i) [
-          | inl s ↦ let more = ap (λ (x : Item). placings k (x ∷ P)) (sym s) ∙ e in absurd (omega (arith, more, placed-here P))
-          | inr d ↦ (d .0, none-unplaced P (sym (d .1 P) ∙ e))
-        ]
+  none-unplaced : (P : List Item) → placings k P ≡ 0 → Unplaced k P
+  none-unplaced [] e = tt
+  none-unplaced (i ∷ P) e =
+      elim (places i) [
+        | inl s ↦ let more = ap (λ (x : Item). placings k (x ∷ P)) (sym s) ∙ e in absurd (omega (arith, more, placed-here P))
+        | inr d ↦ (d .0, none-unplaced P (sym (d .1 P) ∙ e))
+      ]
 
-    record Split (P : List Item) : Type 0 where
-      front : List Item
-      behind : List Item
-      splits : P ≡ front ++ Label k ∷ behind
-      unplaced : Unplaced k behind
+  record Split (P : List Item) : Type 0 where
+    front : List Item
+    behind : List Item
+    splits : P ≡ front ++ Label k ∷ behind
+    unplaced : Unplaced k behind
 
-    once-splits : (P : List Item) → placings k P ≡ 1 → Split P
-    unfolding placings
-    once-splits [] e = absurd (omega arith)
-    once-splits (i ∷ P) e =
-        elim (places _⊑_ _⊔_ i) [
-          | inl s ↦ let none : placings k P ≡ 0 = let one = ap (λ (x : Item). placings k (x ∷ P)) (sym s) ∙ e in omega (arith, one, placed-here P) in
-              record { front = []; behind = P; splits = ap (λ (x : Item). x ∷ P) s; unplaced = none-unplaced P none }
-          | inr d ↦ let later = once-splits P (sym (d .1 P) ∙ e) in
-              record { front = i ∷ later .front; behind = later .behind; splits = ap (λ (l : List Item). i ∷ l) (later .splits); unplaced = later .unplaced }
-        ]
+  once-splits : (P : List Item) → placings k P ≡ 1 → Split P
+  unfolding placings
+  once-splits [] e = absurd (omega arith)
+  once-splits (i ∷ P) e =
+      elim (places i) [
+        | inl s ↦ let none : placings k P ≡ 0 = let one = ap (λ (x : Item). placings k (x ∷ P)) (sym s) ∙ e in omega (arith, one, placed-here P) in
+            record { front = []; behind = P; splits = ap (λ (x : Item). x ∷ P) s; unplaced = none-unplaced P none }
+        | inr d ↦ let later = once-splits P (sym (d .1 P) ∙ e) in
+            record { front = i ∷ later .front; behind = later .behind; splits = ap (λ (l : List Item). i ∷ l) (later .splits); unplaced = later .unplaced }
+      ]
 
 -- each label of a well typed listing has its address below the code's length
 pub label-within : (_⊑_ : ℕ → ℕ → Bool) (_⊔_ : ℕ → ℕ → ℕ) (l : Listing) → Ranges l → WellTyped _⊑_ _⊔_ l → (k : ℕ) → k < length (l .labels) → addressAt (addressesOf (l .items)) k < neededOf (l .items)
 label-within _⊑_ _⊔_ l r w k h =
-    let s = once-splits k _⊑_ _⊔_ (l .items) (w .once k h) in
+    let s = once-splits k (l .items) (w .once k h) in
     let g = behind-label _⊑_ _⊔_ (l .shapes) (l .labels) (s .front) (s .behind) k due (subst (Typed _⊑_ _⊔_ (l .shapes) (l .labels) due) (s .splits) (w .typed)) in
     address-below (l .items) (s .front) (s .behind) k (s .splits) (s .unplaced) (omega (arith, r .label-count)) (g .between) (g .rest) (g .kept) (g .splits) (g .is-kept)
