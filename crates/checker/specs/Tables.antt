@@ -7,9 +7,9 @@ use lib.ListN.{length, getD, set, replicate, length-set, length-replicate, List�
 use lib.Seq.{getD-set-same, getD-set-other}
 use Rattle.choice.specs.Pick.{not-less, if-less}
 use Rattle.listing.specs.Limits.{SHAPES, FIELDS, LABELS, STACK, REGISTERS, TOP-LEVEL}
-use Rattle.listing.specs.Listing.{Field, LabelContext}
+use Rattle.listing.specs.Listing.{Field}
 use Rattle.listing.specs.Parts.{partsFrom, behind, numberAt, countOf, countAt, fieldAt, shapeAt, behindShape, registerAt, registersPlace, labelAt, behindLabel, labelsPlace, shapesIn, labelsIn}
-use Rattle.listing.specs.PartLaws.{parts-none, parts-length, behind-equal}
+use Rattle.listing.specs.PartLaws.{parts-none, parts-length, part-stands, no-part, behind-equal}
 use Rattle.listing.specs.PlaceLaws.{count-held}
 use Rattle.checker.specs.Context.{nowhere, noField, fieldsOf}
 
@@ -54,19 +54,6 @@ module _ (next : ℕ → ℕ) (d : ℕ) where
   behind-stays zero at k j table h = refl
   behind-stays (suc n) at k j table h =
       behind-stays n (next at) (k + 1) j (set table k at) (omega arith) ∙ getD-set-other table k j at d (λ e. omega arith)
-
--- the j-th of n parts
-part-stands : {A : Type 0} (part : ℕ → A) (next : ℕ → ℕ) (d : A) (n at j : ℕ) → j < n → getD (partsFrom part next at n) j d ≡ part (behind next at j)
-unfolding partsFrom behind
-part-stands part next d zero at j h = absurd (omega arith)
-part-stands part next d (suc n) at zero h = refl
-part-stands part next d (suc n) at (suc j) h = part-stands part next d n (next at) j (omega arith)
-
-no-part : {A : Type 0} (part : ℕ → A) (next : ℕ → ℕ) (d : A) (n at j : ℕ) → n ≤ j → getD (partsFrom part next at n) j d ≡ d
-unfolding partsFrom
-no-part part next d zero at j h = refl
-no-part part next d (suc n) at zero h = absurd (omega arith)
-no-part part next d (suc n) at (suc j) h = no-part part next d n (next at) j (omega arith)
 
 same-everywhere : (m j a : ℕ) → getD (replicate m a) j a ≡ a
 same-everywhere zero j a = refl

@@ -4,7 +4,7 @@ use native.Mathlib.Nat.{add-zero}
 use native.Mathlib.Omega.{arith}
 use mathlib.Core.Path.{_≡_, refl, sym, ap, _∙_}
 use mathlib.Core.List.{List, [], _∷_, _++_, flatMap, append-assoc, append-nil}
-use lib.ListN.{length, drop}
+use lib.ListN.{length, drop, getD, List·getD-eq-default}
 use lib.Seq.{getD-drop, drop-drop, drop-append-seam}
 use Rattle.choice.specs.Pick.{not-less}
 use Rattle.listing.specs.Limits.{SHAPES, FIELDS, LABELS, STACK, REGISTERS, ITEMS, TOP-LEVEL}
@@ -26,6 +26,16 @@ pub parts-length : {A : Type 0} (part : ℕ → A) (next : ℕ → ℕ) (at n : 
 unfolding partsFrom
 parts-length part next at zero = refl
 parts-length part next at (suc n) = ap suc (parts-length part next (next at) n)
+
+-- the j-th of n parts, and one that is not there
+pub part-stands : {A : Type 0} (part : ℕ → A) (next : ℕ → ℕ) (d : A) (n at j : ℕ) → j < n → getD (partsFrom part next at n) j d ≡ part (behind next at j)
+unfolding partsFrom behind
+part-stands part next d zero at j h = absurd (omega arith)
+part-stands part next d (suc n) at zero h = refl
+part-stands part next d (suc n) at (suc j) h = part-stands part next d n (next at) j (omega arith)
+
+pub no-part : {A : Type 0} (part : ℕ → A) (next : ℕ → ℕ) (d : A) (n at j : ℕ) → n ≤ j → getD (partsFrom part next at n) j d ≡ d
+no-part part next d n at j h = List·getD-eq-default (partsFrom part next at n) d {n = j} (omega (arith, parts-length part next at n))
 
 -- a number within its limit is taken as it is
 within-kept : (limit : ℕ) {m n : ℕ} → m ≡ n → n ≤ limit → countOf limit m ≡ n
