@@ -112,7 +112,7 @@ pub code-fronts-match : (code out : List ℕ) → length code ≤ length out / 4
 code-fronts-match code out h = sym (code-front (length code) out h)
 
 -- the code of a listing's numbers, erased into a room that is large enough
-items-fit : ITEMS ≤ CODE-WORDS
+pub items-fit : ITEMS ≤ CODE-WORDS
 unfolding CODE-WORDS
 items-fit = omega arith
 
@@ -160,7 +160,7 @@ pub ruleset tasks = (refl, task-reads, task-checks, task-erases)
 
 -- a packet over the limit
 module _ (packet : List ℕ) (h : BYTES < length packet) where
-  too-long : Refused TOO-LONG 0 ≡ checkOf packet
+  pub too-long : Refused TOO-LONG 0 ≡ checkOf packet
   unfolding checkOf takenOf checkedBy
   too-long = ap (λ (t : Taken). checkedBy t (verdictIn packet)) (is-less BYTES (length packet) _ _ _ h refl)
 

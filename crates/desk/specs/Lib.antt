@@ -9,6 +9,11 @@ pub mod ReadCall  -- vans_read: the packet reader on byte buffers
 pub mod ReadCallLaws  -- for the proofs of the code of vans_read
 pub mod CheckCall  -- vans_check: the checker
 pub mod EraseCall  -- vans_erase: the eraser on byte buffers
+pub mod Desk  -- the desk call on words
+pub mod DeskLaws  -- for the proofs of its code
+pub mod LentCall  -- what a call on a packet leaves in its buffers
+pub mod VansDesk  -- vans_desk: the desk call on byte buffers
+pub mod VansDeskLaws  -- for the proofs of its code
 pub mod Tasks  -- the calls on packets by their task
 pub mod CallLaws  -- for the proofs of the code of vans_check, vans_erase and the tasks
 pub mod Theorems  -- each label of an accepted listing has its address within the code

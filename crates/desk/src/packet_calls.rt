@@ -21,7 +21,7 @@ ghost use Rattle.desk.specs.EraseCall.{codeOut, erasedOut, vansEraseOf};
 ghost use Rattle.desk.specs.Tasks.{taskOf};
 
 // The refusal of a buffer that is too short.
-const DOES_NOT_FIT: u8 = 35;
+pub const DOES_NOT_FIT: u8 = 35;
 
 // The calls that a room can be made for.
 const READ: u32 = 0;

@@ -45,7 +45,7 @@ fn long_room() -> [u32; LONG_PACKET]
     [0; LONG_PACKET]
 }
 
-fn longest_room() -> [u32; BYTES]
+pub fn longest_room() -> [u32; BYTES]
     ensures { λ r. ⌜ length r ≡ BYTES ⌝ }
 {
     [0; BYTES]

@@ -15,10 +15,10 @@ ghost use Rattle.desk.specs.Bytes.{wordsOf, bytesOf};
 ghost use Rattle.desk.specs.RunCall.{REGS-BYTES, SMALL-WORDS, Whole, runCall, raggedOf, borderOf, inBytes, runBytesOf, vansRunOf};
 
 // The sixteen registers in bytes.
-const REGS_BYTES: usize = 64;
+pub const REGS_BYTES: usize = 64;
 
 // The largest code and heap, in words, that a call on small buffers makes room for.
-const SMALL_WORDS: usize = 64;
+pub const SMALL_WORDS: usize = 64;
 
 // The refusal of buffers of so many bytes, n being the machine's own.
 fn ragged(n: u8, code: usize, heap: usize, regs: usize) -> u8
@@ -45,7 +45,7 @@ fn border(code: usize, heap: usize, regs: usize, budget: u32) -> u8
 }
 
 // The sixteen registers of a buffer.
-fn registers(regs: &[u8]) -> [u32; 16]
+pub fn registers(regs: &[u8]) -> [u32; 16]
     requires { ⌜ length (now regs) ≡ REGS-BYTES ⌝ }
     ensures { λ r. ⌜ r ≡ wordsOf (now (regs .entry)) ⌝ }
 {
@@ -63,7 +63,7 @@ fn put_registers(words: [u32; 16], regs: &mut [u8])
 }
 
 // Runs over words, and copies heap and registers into the buffers.
-fn run_over(
+pub fn run_over(
     c: &[u32],
     h: &mut [u32],
     r: [u32; 16],
@@ -105,7 +105,7 @@ fn run_in(
 // Room for the words of a call. Clearing room for the largest heap takes longer than a short run, so
 // there are three sizes.
 
-fn small_room() -> [u32; SMALL_WORDS]
+pub fn small_room() -> [u32; SMALL_WORDS]
     ensures { λ r. ⌜ length r ≡ SMALL-WORDS ⌝ }
 {
     [0; SMALL_WORDS]
@@ -117,7 +117,7 @@ pub fn code_room() -> [u32; CODE_WORDS]
     [0; CODE_WORDS]
 }
 
-fn heap_room() -> [u32; HEAP_WORDS]
+pub fn heap_room() -> [u32; HEAP_WORDS]
     ensures { λ r. ⌜ length r ≡ HEAP-WORDS ⌝ }
 {
     [0; HEAP_WORDS]

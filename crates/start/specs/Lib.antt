@@ -10,5 +10,6 @@ pub mod RowLaws  -- the same of the rows
 pub mod RisingLaws  -- where bases rise, the row of a base is found by halving
 pub mod RefusalLaws  -- a refusal is the first
 pub mod PassingLaws  -- the whole check is clear exactly where a start is a passing one
+pub mod ListedLaws  -- the indices of the registers that the first label lists
 pub mod Theorems  -- a start passes exactly where Meaning's statements hold, and what follows of its words
 pub mod Unique  -- any two results that meet a promise are equal

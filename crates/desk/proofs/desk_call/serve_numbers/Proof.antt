@@ -1,0 +1,18 @@
+-- `serve_numbers` refuses, or runs.
+use Rattle.desk.specs.DeskLaws.{servings}
+use borrow.Author.Needs.{needs}
+use Rattle.desk.proofs.desk_call.serve_numbers.Statement.{statement}
+use Rattle.desk.proofs.desk_call.serve_numbers.Tie as tie
+
+pub serve-numbers-spec : {M : Type 1} → statement M
+serve-numbers-spec =
+    tie.close
+    (tie.spec
+    (λ c κs. search needs)
+    (λ c κs. search (servings, needs))
+    (λ c. search needs)
+    (λ c. search needs)
+    (λ c. search (servings, needs))
+    (λ c κs. search needs)
+    (λ c. search needs)
+    (λ c. search (servings, needs)))
