@@ -16,5 +16,4 @@ pub mod VansDesk  -- vans_desk: the desk call on byte buffers
 pub mod VansDeskLaws  -- for the proofs of its code
 pub mod Tasks  -- the calls on packets by their task
 pub mod CallLaws  -- for the proofs of the code of vans_check, vans_erase and the tasks
-pub mod Theorems  -- each label of an accepted listing has its address within the code
 pub mod Unique  -- any two results that meet the promise are equal

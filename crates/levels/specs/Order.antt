@@ -9,11 +9,12 @@ pub record Order : Type 1 where
   pub below : ℕ → ℕ → Bool
   pub join : ℕ → ℕ → ℕ
   pub reflexive : (a : ℕ) → Level a → below a a ≡ true
-  pub transitive : (a b c : ℕ) → Level a → Level b → Level c → below a b ≡ true → below b c ≡ true → below a c ≡ true
+  -- the three laws by which levels flow hold of all numbers, so that nobody has to carry which numbers are levels
+  pub transitive : (a b c : ℕ) → below a b ≡ true → below b c ≡ true → below a c ≡ true
   pub antisymmetric : (a b : ℕ) → Level a → Level b → below a b ≡ true → below b a ≡ true → a ≡ b
   pub joins : (a b : ℕ) → Level a → Level b → Level (join a b)
-  pub join-left : (a b : ℕ) → Level a → Level b → below a (join a b) ≡ true
-  pub join-right : (a b : ℕ) → Level a → Level b → below b (join a b) ≡ true
+  pub join-left : (a b : ℕ) → below a (join a b) ≡ true
+  pub join-right : (a b : ℕ) → below b (join a b) ≡ true
   pub join-least : (a b c : ℕ) → Level a → Level b → Level c → below a c ≡ true → below b c ≡ true → below (join a b) c ≡ true
   -- the level of r0, the least
   pub least : Level 0

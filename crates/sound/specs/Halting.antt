@@ -1,0 +1,23 @@
+-- The context in which a run halts: the one before the item whose word stands at the pc.
+use Prim.Native.Nat.{ℕ, suc}
+use mathlib.Core.Bool.{Bool}
+use mathlib.Core.List.{List, [], _∷_}
+use lib.Dec.{eqb}
+use Rattle.choice.specs.Pick.{pick}
+use Rattle.listing.specs.declared.items.Item.{Item}
+use Rattle.listing.specs.Listing.{Listing}
+use Rattle.checker.specs.Context.{both}
+use Rattle.checker.specs.Judgement.{Now}
+use Rattle.eraser.specs.Erase.{keptOf, countBehind}
+use Rattle.sound.specs.Contexts.{nowAt}
+
+-- the place of the kept item whose address is the pc, where so many items were kept before
+unfoldable pub placeFrom : List Item → ℕ → ℕ → ℕ
+placeFrom [] count pc = 0
+placeFrom (i ∷ items) count pc = pick (both (keptOf i) (eqb count pc)) 0 (suc (placeFrom items (countBehind i count) pc))
+
+abbrev pub placeOf : List Item → ℕ → ℕ
+placeOf items pc = placeFrom items 0 pc
+
+abbrev pub haltContext : (ℕ → ℕ → Bool) → (ℕ → ℕ → ℕ) → Listing → ℕ → Now
+haltContext _⊑_ _⊔_ l pc = nowAt _⊑_ _⊔_ (l .shapes) (l .labels) (l .items) (placeOf (l .items) pc)
