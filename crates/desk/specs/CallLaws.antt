@@ -1,4 +1,4 @@
--- Laws of the calls on packets for the proofs of their code: one for each way through it. `checkings` holds those for the answers by what the checker says, `codes` those for handing a code over, `tasks` those for the tasks.
+-- Laws of the calls on packets for the proofs of their code: one for each way through it. `checkings` holds those for the answers by what the checker says, `codes` those for handing a code over.
 use Prim.Native.Nat.{ℕ, _*_, _/_, _%_, _^_, _<_, _≤_}
 use native.Mathlib.Omega.{arith}
 use mathlib.Core.Path.{_≡_, refl, sym, ap, _∙_}
@@ -24,10 +24,8 @@ use Rattle.eraser.specs.PassLaws.{code-length}
 use Rattle.desk.specs.Bytes.{bytesOf}
 use Rattle.desk.specs.Answer.{answerOf}
 use Rattle.desk.specs.PacketCall.{PacketCall, packetCall, DOES-NOT-FIT}
-use Rattle.desk.specs.ReadCall.{vansReadOf}
 use Rattle.desk.specs.CheckCall.{answerBy, vansCheckOf}
 use Rattle.desk.specs.EraseCall.{codeOut, erasedOut, eraseBy, vansEraseOf}
-use Rattle.desk.specs.Tasks.{taskOf}
 
 -- by what the checker says of a packet in a room that is large enough
 module _ (packet room room′ : List ℕ) (r : Checked) (e : checkingOf r room′ ≡ checkIn packet room) (h : length packet ≤ BYTES) (k : length packet ≤ length room) where
@@ -142,22 +140,6 @@ module _ (ns code code′ : List ℕ) (n : ℕ) (whole : length code ≡ CODE-WO
 
 pub ruleset codes = (refl, code-small, code-fits, code-not, code-over, code-ragged, code-front, code-fronts-match, code-count, code-is, code-within, erased-front)
 
--- the tasks
-module _ (task : ℕ) (packet out : List ℕ) (c : PacketCall) where
-  pub task-reads : task ≡ 0 → c ≡ vansReadOf packet out → c ≡ taskOf task packet out
-  unfolding taskOf
-  task-reads h p = is-equal task 0 _ _ _ h p
-
-  pub task-checks : (a : ℕ) → (task ≡ 0 → ⊥) → task ≡ 1 → a ≡ vansCheckOf packet → c ≡ packetCall a out → c ≡ taskOf task packet out
-  unfolding taskOf
-  task-checks a h k q p = not-equal task 0 _ _ _ h (is-equal task 1 _ _ _ k (p ∙ ap (λ (x : ℕ). packetCall x out) q))
-
-  pub task-erases : (task ≡ 0 → ⊥) → (task ≡ 1 → ⊥) → c ≡ vansEraseOf packet out → c ≡ taskOf task packet out
-  unfolding taskOf
-  task-erases h k p = not-equal task 0 _ _ _ h (not-equal task 1 _ _ _ k p)
-
-pub ruleset tasks = (refl, task-reads, task-checks, task-erases)
-
 -- a packet over the limit
 module _ (packet : List ℕ) (h : BYTES < length packet) where
   pub too-long : Refused TOO-LONG 0 ≡ checkOf packet
@@ -172,18 +154,4 @@ module _ (packet : List ℕ) (h : BYTES < length packet) where
   unfolding vansEraseOf eraseBy answerBy
   too-long-erased a out c p q = q ∙ ap (λ (x : ℕ). packetCall x out) p ∙ ap (λ (y : Checked). eraseBy y (numbersIn packet) out) too-long
 
--- each call is its task
-module _ (packet out : List ℕ) (task : ℕ) (c : PacketCall) (e : c ≡ taskOf task packet out) where
-  pub call-reads : task ≡ 0 → c ≡ vansReadOf packet out
-  unfolding taskOf
-  call-reads h = e ∙ sym (is-equal task 0 _ _ _ h refl)
-
-  pub call-erases : task ≡ 2 → c ≡ vansEraseOf packet out
-  unfolding taskOf
-  call-erases h = e ∙ sym (not-equal task 0 _ _ _ (λ z. omega arith) (not-equal task 1 _ _ _ (λ z. omega arith) refl))
-
-pub call-checks : (packet out out′ : List ℕ) (task a : ℕ) → packetCall a out′ ≡ taskOf task packet out → task ≡ 1 → a ≡ vansCheckOf packet
-unfolding taskOf
-call-checks packet out out′ task a e h = ap (λ (x : PacketCall). x .answer) (e ∙ sym (not-equal task 0 _ _ _ (λ z. omega arith) (is-equal task 1 _ _ _ h refl)))
-
-pub ruleset calls = (refl, too-long-checked, too-long-erased, call-reads, call-checks, call-erases)
+pub ruleset long = (refl, too-long-checked, too-long-erased)

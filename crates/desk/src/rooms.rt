@@ -6,7 +6,7 @@ ghost use mathlib.Core.Path.{_≡_};
 ghost use Prim.Native.Nat.{_≤_};
 ghost use lib.ListN.{length};
 ghost use Rattle.listing.specs.Limits.{BYTES};
-ghost use Rattle.desk.specs.PacketCall.{packetCall};
+ghost use Rattle.desk.specs.LentCall.{lentCall};
 ghost use Rattle.desk.specs.Tasks.{taskOf};
 // The bytes of packets for which there is a room of their own. The longest packet that is taken has
 // fewer bytes than a long one here.
@@ -51,75 +51,124 @@ pub fn longest_room() -> [u32; BYTES]
     [0; BYTES]
 }
 
-fn in_small(task: u32, packet: &[u8], out: &mut [u8]) -> u64
+fn in_small(
+    task: u32,
+    packet: &[u8],
+    out: &mut [u8],
+    heap: &mut [u8],
+    blocks: &[u8],
+    regs: &mut [u8],
+    budget: u32,
+) -> u64
     requires { ⌜ length (now packet) ≤ 128 ⌝ }
-    ensures { λ a. ⌜ packetCall a (now (out .exit)) ≡ taskOf task (now (packet .entry)) (now (out .entry)) ⌝ }
+    ensures { λ a. ⌜ lentCall a (now (out .exit)) (now (heap .exit)) (now (regs .exit)) ≡ taskOf task (now (packet .entry)) (now (out .entry)) (now (heap .entry)) (now (blocks .entry)) (now (regs .entry)) budget ⌝ }
 {
     let mut room = small_room();
-    task_in(task, &mut room, packet, out)
+    task_in(task, &mut room, packet, out, heap, blocks, regs, budget)
 }
 
-fn in_short(task: u32, packet: &[u8], out: &mut [u8]) -> u64
+fn in_short(
+    task: u32,
+    packet: &[u8],
+    out: &mut [u8],
+    heap: &mut [u8],
+    blocks: &[u8],
+    regs: &mut [u8],
+    budget: u32,
+) -> u64
     requires { ⌜ length (now packet) ≤ 1024 ⌝ }
-    ensures { λ a. ⌜ packetCall a (now (out .exit)) ≡ taskOf task (now (packet .entry)) (now (out .entry)) ⌝ }
+    ensures { λ a. ⌜ lentCall a (now (out .exit)) (now (heap .exit)) (now (regs .exit)) ≡ taskOf task (now (packet .entry)) (now (out .entry)) (now (heap .entry)) (now (blocks .entry)) (now (regs .entry)) budget ⌝ }
 {
     let mut room = short_room();
-    task_in(task, &mut room, packet, out)
+    task_in(task, &mut room, packet, out, heap, blocks, regs, budget)
 }
 
-fn in_middle(task: u32, packet: &[u8], out: &mut [u8]) -> u64
+fn in_middle(
+    task: u32,
+    packet: &[u8],
+    out: &mut [u8],
+    heap: &mut [u8],
+    blocks: &[u8],
+    regs: &mut [u8],
+    budget: u32,
+) -> u64
     requires { ⌜ length (now packet) ≤ 4096 ⌝ }
-    ensures { λ a. ⌜ packetCall a (now (out .exit)) ≡ taskOf task (now (packet .entry)) (now (out .entry)) ⌝ }
+    ensures { λ a. ⌜ lentCall a (now (out .exit)) (now (heap .exit)) (now (regs .exit)) ≡ taskOf task (now (packet .entry)) (now (out .entry)) (now (heap .entry)) (now (blocks .entry)) (now (regs .entry)) budget ⌝ }
 {
     let mut room = middle_room();
-    task_in(task, &mut room, packet, out)
+    task_in(task, &mut room, packet, out, heap, blocks, regs, budget)
 }
 
-fn in_long(task: u32, packet: &[u8], out: &mut [u8]) -> u64
+fn in_long(
+    task: u32,
+    packet: &[u8],
+    out: &mut [u8],
+    heap: &mut [u8],
+    blocks: &[u8],
+    regs: &mut [u8],
+    budget: u32,
+) -> u64
     requires { ⌜ length (now packet) ≤ 20480 ⌝ }
-    ensures { λ a. ⌜ packetCall a (now (out .exit)) ≡ taskOf task (now (packet .entry)) (now (out .entry)) ⌝ }
+    ensures { λ a. ⌜ lentCall a (now (out .exit)) (now (heap .exit)) (now (regs .exit)) ≡ taskOf task (now (packet .entry)) (now (out .entry)) (now (heap .entry)) (now (blocks .entry)) (now (regs .entry)) budget ⌝ }
 {
     let mut room = long_room();
-    task_in(task, &mut room, packet, out)
+    task_in(task, &mut room, packet, out, heap, blocks, regs, budget)
 }
 
-fn in_longest(task: u32, packet: &[u8], out: &mut [u8]) -> u64
+fn in_longest(
+    task: u32,
+    packet: &[u8],
+    out: &mut [u8],
+    heap: &mut [u8],
+    blocks: &[u8],
+    regs: &mut [u8],
+    budget: u32,
+) -> u64
     requires { ⌜ length (now packet) ≤ BYTES ⌝ }
-    ensures { λ a. ⌜ packetCall a (now (out .exit)) ≡ taskOf task (now (packet .entry)) (now (out .entry)) ⌝ }
+    ensures { λ a. ⌜ lentCall a (now (out .exit)) (now (heap .exit)) (now (regs .exit)) ≡ taskOf task (now (packet .entry)) (now (out .entry)) (now (heap .entry)) (now (blocks .entry)) (now (regs .entry)) budget ⌝ }
 {
     let mut room = longest_room();
-    task_in(task, &mut room, packet, out)
+    task_in(task, &mut room, packet, out, heap, blocks, regs, budget)
 }
 
 // Tries the rooms from a size on. It calls itself for the next size, as run_from does and for the same
 // reason: a short packet does not make the longest room's stack frame.
-pub fn in_room(size: u32, task: u32, packet: &[u8], out: &mut [u8]) -> u64
+pub fn in_room(
+    size: u32,
+    task: u32,
+    packet: &[u8],
+    out: &mut [u8],
+    heap: &mut [u8],
+    blocks: &[u8],
+    regs: &mut [u8],
+    budget: u32,
+) -> u64
     requires { ⌜ length (now packet) ≤ BYTES ⌝ }
-    ensures { λ a. ⌜ packetCall a (now (out .exit)) ≡ taskOf task (now (packet .entry)) (now (out .entry)) ⌝ }
+    ensures { λ a. ⌜ lentCall a (now (out .exit)) (now (heap .exit)) (now (regs .exit)) ≡ taskOf task (now (packet .entry)) (now (out .entry)) (now (heap .entry)) (now (blocks .entry)) (now (regs .entry)) budget ⌝ }
 {
     if size == 0 {
         if packet.len() <= SMALL_PACKET {
-            return in_small(task, packet, out);
+            return in_small(task, packet, out, heap, blocks, regs, budget);
         }
-        return in_room(1, task, packet, out);
+        return in_room(1, task, packet, out, heap, blocks, regs, budget);
     }
     if size == 1 {
         if packet.len() <= SHORT_PACKET {
-            return in_short(task, packet, out);
+            return in_short(task, packet, out, heap, blocks, regs, budget);
         }
-        return in_room(2, task, packet, out);
+        return in_room(2, task, packet, out, heap, blocks, regs, budget);
     }
     if size == 2 {
         if packet.len() <= MIDDLE_PACKET {
-            return in_middle(task, packet, out);
+            return in_middle(task, packet, out, heap, blocks, regs, budget);
         }
-        return in_room(3, task, packet, out);
+        return in_room(3, task, packet, out, heap, blocks, regs, budget);
     }
     if size == 3 {
         if packet.len() <= LONG_PACKET {
-            return in_long(task, packet, out);
+            return in_long(task, packet, out, heap, blocks, regs, budget);
         }
-        return in_room(4, task, packet, out);
+        return in_room(4, task, packet, out, heap, blocks, regs, budget);
     }
-    in_longest(task, packet, out)
+    in_longest(task, packet, out, heap, blocks, regs, budget)
 }

@@ -1,5 +1,5 @@
 -- `task_in`: each branch is a task.
-use Rattle.desk.specs.CallLaws.{tasks}
+use Rattle.desk.specs.TaskLaws.{tasks}
 use borrow.Author.Needs.{needs}
 use Rattle.desk.proofs.packet_calls.task_in.Statement.{statement}
 use Rattle.desk.proofs.packet_calls.task_in.Tie as tie
@@ -16,6 +16,12 @@ task-in-spec =
     (λ c. search needs)
     (λ c. search (tasks, needs))
     (λ c κs. search needs)
+    (λ c. search needs)
+    (λ c. search needs)
+    (λ c. search (tasks, needs))
+    (λ c κs. search needs)
+    (λ c. search needs)
+    (λ c. search needs)
     (λ c. search needs)
     (λ c. search needs)
     (λ c. search (tasks, needs)))

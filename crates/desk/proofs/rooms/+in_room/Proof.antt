@@ -14,15 +14,15 @@ use Rattle.desk.proofs.rooms.in_small.Reads as in-small-reads
 use Rattle.desk.proofs.rooms.+in_room.{statement}
 use Rattle.desk.proofs.rooms.+in_room.Tie.{close}
 
-abbrev μ-in-room : Measures 2 in-room-kinds.ps ℕ
+abbrev μ-in-room : Measures 5 in-room-kinds.ps ℕ
 μ-in-room κs a = 4 - a .0
 
-abbrev in-room-at : ℕ → In 2 in-room-kinds.ps
-in-room-at t = and 2 in-room-kinds.ps (is 2 in-room-kinds.ps μ-in-room t) in-room.Pre
+abbrev in-room-at : ℕ → In 5 in-room-kinds.ps
+in-room-at t = and 5 in-room-kinds.ps (is 5 in-room-kinds.ps μ-in-room t) in-room.Pre
 
-abbrev in-room-below : ℕ → In 2 in-room-kinds.ps
+abbrev in-room-below : ℕ → In 5 in-room-kinds.ps
 in-room-below t =
-    and 2 in-room-kinds.ps (falls 2 in-room-kinds.ps _<_ μ-in-room t) in-room.Pre
+    and 5 in-room-kinds.ps (falls 5 in-room-kinds.ps _<_ μ-in-room t) in-room.Pre
 
 pub +in-room-spec : {M : Type 1} → statement M
 +in-room-spec = close μ-in-room λ t. in-room-lts.spec (
@@ -44,27 +44,45 @@ pub +in-room-spec : {M : Type 1} → statement M
     (λ c κs. search needs)
     (λ c. search needs)
     (λ c. search needs)
-    (λ c κs. search needs)
     (λ c. search needs)
     (λ c. search needs)
     (λ c κs. search needs)
     (λ c. search needs)
     (λ c. search needs)
-    (λ c κs. search needs)
     (λ c. search needs)
     (λ c. search needs)
     (λ c κs. search needs)
     (λ c. search needs)
     (λ c. search needs)
-    (λ c κs. search needs)
     (λ c. search needs)
     (λ c. search needs)
     (λ c κs. search needs)
     (λ c. search needs)
     (λ c. search needs)
-    (λ c κs. search needs)
     (λ c. search needs)
     (λ c. search needs)
     (λ c κs. search needs)
+    (λ c. search needs)
+    (λ c. search needs)
+    (λ c. search needs)
+    (λ c. search needs)
+    (λ c κs. search needs)
+    (λ c. search needs)
+    (λ c. search needs)
+    (λ c. search needs)
+    (λ c. search needs)
+    (λ c κs. search needs)
+    (λ c. search needs)
+    (λ c. search needs)
+    (λ c. search needs)
+    (λ c. search needs)
+    (λ c κs. search needs)
+    (λ c. search needs)
+    (λ c. search needs)
+    (λ c. search needs)
+    (λ c. search needs)
+    (λ c κs. search needs)
+    (λ c. search needs)
+    (λ c. search needs)
     (λ c. search needs)
     (λ c. search needs)
