@@ -12,16 +12,20 @@ u64 vans_run(const u8 *code, size code_len, u8 *heap, size heap_len,
 u64 vans_read(const u8 *packet, size packet_len, u8 *numbers, size numbers_len);
 u64 vans_check(const u8 *packet, size packet_len);
 u64 vans_erase(const u8 *packet, size packet_len, u8 *code, size code_len);
+u64 vans_desk(const u8 *packet, size packet_len, u8 *code, size code_len,
+              u8 *heap, size heap_len, const u8 *blocks, size blocks_len,
+              u8 *regs, size regs_len, u32 budget);
 
-enum { RUN, READ, CHECK, ERASE };
+enum { RUN, READ, CHECK, ERASE, DESK };
 
-/* The head of a request. Its buffers lie behind it, between guard bytes; lengths
- * are in bytes, and starts count from the head's first byte. */
+/* The head of a request. Its buffers lie behind it, between guard bytes, those first
+ * that are only read; lengths are in bytes, and starts count from the head's first
+ * byte. */
 struct request {
     u32 call, budget, length;
     struct {
         u32 start, length;
-    } buffers[3];
+    } buffers[5];
 };
 
 /* The call is made on the buffers where they were read, and the reply is the whole
@@ -97,6 +101,10 @@ static u64 call(void)
         return vans_check(start_of(0), length_of(0));
     case ERASE:
         return vans_erase(start_of(0), length_of(0), start_of(1), length_of(1));
+    case DESK:
+        return vans_desk(start_of(0), length_of(0), start_of(2), length_of(2),
+                         start_of(3), length_of(3), start_of(1), length_of(1),
+                         start_of(4), length_of(4), room.request.budget);
     }
     stop(1);
     return 0;

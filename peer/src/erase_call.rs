@@ -26,6 +26,11 @@ fn erased(packet: &[u8], length: usize) -> Result<Vec<u32>, Refusal> {
     let numbers = packet::read(packet)?;
     let listing = Listing::of(&numbers);
     checker::check(&listing)?;
+    fitting_words(&listing, length)
+}
+
+/// The code words of an accepted listing, for a buffer of so many bytes.
+pub fn fitting_words(listing: &Listing, length: usize) -> Result<Vec<u32>, Refusal> {
     let words = eraser::erase(listing.items());
     if length / 4 < words.len() {
         Err(Refusal { number: WORDS_DO_NOT_FIT, place: words.len() as u32 })

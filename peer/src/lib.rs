@@ -1,9 +1,10 @@
-//! The second program: the packet reader, the checker, the eraser and the bare
-//! machine with their calls on byte buffers, written from 01 alone, and the proved
-//! calls beside them. Read `packet`, `listing`, `checker`, `eraser` and `machine`
-//! first, then `read_call`, `check_call`, `erase_call` and `run_call`;
-//! `tests/packet`, `tests/listing` and `tests/run_call` compare the calls,
-//! `bin/bench` times them.
+//! The second program: the packet reader, the checker, the eraser, the start check
+//! and the bare machine with their calls on byte buffers, written from 01 alone, and
+//! the proved calls beside them. Read `packet`, `listing`, `checker`, `eraser`,
+//! `start` and `machine` first, then `read_call`, `check_call`, `erase_call`,
+//! `run_call` and `desk_call`; `tests/packet`, `tests/listing`, `tests/run_call` and
+//! `tests/desk` compare the calls, `tests/observer` looks at pairs of desk calls for
+//! what an observer can tell, `bin/bench` times them.
 
 #![deny(unsafe_code)]
 
@@ -12,6 +13,7 @@ pub mod bytes;
 pub mod cases;
 pub mod check_call;
 pub mod checker;
+pub mod desk_call;
 pub mod erase_call;
 pub mod eraser;
 pub mod lent;
@@ -22,4 +24,5 @@ pub mod proved;
 pub mod random;
 pub mod read_call;
 pub mod run_call;
+pub mod start;
 pub mod word;

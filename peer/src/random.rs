@@ -49,6 +49,12 @@ impl Random {
         choices[self.below(choices.len() as u32) as usize]
     }
 
+    pub fn shuffle<T>(&mut self, things: &mut [T]) {
+        for last in (1..things.len()).rev() {
+            things.swap(last, self.below(last as u32 + 1) as usize);
+        }
+    }
+
     pub fn bytes(&mut self, length: usize) -> Vec<u8> {
         let mut bytes: Vec<u8> =
             (0..length.div_ceil(8)).flat_map(|_| self.next().to_le_bytes()).collect();

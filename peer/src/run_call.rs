@@ -3,6 +3,7 @@
 use crate::answer;
 use crate::bytes::{registers_of, words_of, write_words};
 use crate::machine;
+use crate::packet::Refusal;
 
 pub const CODE_WORDS: usize = 1_024;
 pub const HEAP_WORDS: usize = 16_384;
@@ -26,15 +27,37 @@ pub fn refusals(code: usize, heap: usize, regs: usize, budget: u32) -> impl Iter
     .filter_map(|(number, applies)| applies.then_some(number))
 }
 
+/// The first of them, with its place.
+pub fn check(code: usize, heap: usize, regs: usize, budget: u32) -> Result<(), Refusal> {
+    let first = refusals(code, heap, regs, budget).next();
+    first.map_or(Ok(()), |number| Err(Refusal { number, place: 0 }))
+}
+
 /// Runs the code, or refuses and leaves the lent buffers as they are. All places are 0.
 pub fn run(code: &[u8], heap: &mut [u8], regs: &mut [u8], budget: u32) -> u64 {
-    if let Some(number) = refusals(code.len(), heap.len(), regs.len(), budget).next() {
-        return answer::pack(number, 0, 0);
+    match check(code.len(), heap.len(), regs.len(), budget) {
+        Err(Refusal { number, place }) => answer::pack(number, place, 0),
+        Ok(()) => Words::of(heap, regs).run(&words_of(code), heap, regs, budget),
     }
-    let mut heap_words = words_of(heap);
-    let mut registers = registers_of(regs);
-    let (status, count) = machine::run(&words_of(code), &mut heap_words, &mut registers, budget);
-    write_words(&heap_words, heap);
-    write_words(&registers, regs);
-    answer::pack(status as u8, 0, count)
+}
+
+/// The words of a lent heap and of lent registers.
+pub struct Words {
+    pub heap: Vec<u32>,
+    pub regs: [u32; 16],
+}
+
+impl Words {
+    /// The lengths are such as `check` takes.
+    pub fn of(heap: &[u8], regs: &[u8]) -> Self {
+        Words { heap: words_of(heap), regs: registers_of(regs) }
+    }
+
+    /// Runs the code from here, and writes what then is over the lent bytes.
+    pub fn run(mut self, code: &[u32], heap: &mut [u8], regs: &mut [u8], budget: u32) -> u64 {
+        let (status, count) = machine::run(code, &mut self.heap, &mut self.regs, budget);
+        write_words(&self.heap, heap);
+        write_words(&self.regs, regs);
+        answer::pack(status as u8, 0, count)
+    }
 }

@@ -91,6 +91,11 @@ impl Iterator for Items<'_> {
 }
 
 impl Item {
+    /// Whether erasing keeps the item.
+    pub fn is_kept(self) -> bool {
+        !matches!(self, Item::Label(_) | Item::Cpush(_))
+    }
+
     /// The item's number and its operands.
     pub fn numbers(self) -> Vec<u32> {
         match self {

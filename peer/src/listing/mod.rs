@@ -6,7 +6,7 @@ pub mod item;
 pub mod types;
 
 use context::{Context, Stack};
-use item::Items;
+use item::{Item, Items};
 use types::{Type, Types};
 
 pub struct Listing<'a> {
@@ -28,6 +28,14 @@ impl<'a> Listing<'a> {
 
     pub fn items(&self) -> Items<'a> {
         Items::new(self.items)
+    }
+
+    /// The first label's context: the label that item 0 places, if it is one.
+    pub fn first(&self) -> Option<&Context> {
+        match self.items().next() {
+            Some(Item::Label(label)) => Some(&self.contexts[usize::from(label)]),
+            _ => None,
+        }
     }
 }
 

@@ -50,6 +50,13 @@ impl Type {
     }
 }
 
+/// The fields that a shape has.
+#[inline]
+pub fn fields(shape: &Types) -> &[Type] {
+    let count = shape.iter().take_while(|field| field.is_some()).count();
+    &shape[..count]
+}
+
 /// One level is at or below another.
 #[inline]
 pub fn at_or_below(lower: u8, upper: u8) -> bool {

@@ -29,6 +29,19 @@ mod over_c {
             code: *mut u8,
             code_len: usize,
         ) -> u64;
+        pub fn vans_desk(
+            packet: *const u8,
+            packet_len: usize,
+            code: *mut u8,
+            code_len: usize,
+            heap: *mut u8,
+            heap_len: usize,
+            blocks: *const u8,
+            blocks_len: usize,
+            regs: *mut u8,
+            regs_len: usize,
+            budget: u32,
+        ) -> u64;
     }
 }
 
@@ -60,4 +73,30 @@ pub fn vans_check(packet: &[u8]) -> u64 {
 pub fn vans_erase(packet: &[u8], code: &mut [u8]) -> u64 {
     // SAFETY: the slices are lent as the head of this file says.
     unsafe { over_c::vans_erase(packet.as_ptr(), packet.len(), code.as_mut_ptr(), code.len()) }
+}
+
+pub fn vans_desk(
+    packet: &[u8],
+    code: &mut [u8],
+    heap: &mut [u8],
+    blocks: &[u8],
+    regs: &mut [u8],
+    budget: u32,
+) -> u64 {
+    // SAFETY: the slices are lent as the head of this file says.
+    unsafe {
+        over_c::vans_desk(
+            packet.as_ptr(),
+            packet.len(),
+            code.as_mut_ptr(),
+            code.len(),
+            heap.as_mut_ptr(),
+            heap.len(),
+            blocks.as_ptr(),
+            blocks.len(),
+            regs.as_mut_ptr(),
+            regs.len(),
+            budget,
+        )
+    }
 }

@@ -12,8 +12,8 @@ mod splices;
 
 use peer::answer::unpack;
 use peer::bytes::words_of;
+use peer::cases::listing::by_hand::packet;
 use peer::packet::grammar::ITEMS;
-use peer::packet::number::encode_all;
 use peer::packet::Refusal;
 use peer::{check_call, erase_call, proved};
 
@@ -55,19 +55,4 @@ fn erased(call: Erase, packet: &[u8]) -> Outcome {
 
 fn refused(number: u8, place: usize) -> Outcome {
     Err(Refusal { number, place: place as u32 })
-}
-
-/// A packet of these numbers. A shape has its fields' kinds and levels, without
-/// their count; labels and items are as in the packet.
-fn packet(shapes: &[&[u32]], labels: &[&[u32]], items: &[&[u32]]) -> Vec<u8> {
-    let mut numbers = vec![1, shapes.len() as u32];
-    for shape in shapes {
-        numbers.push(shape.len() as u32 / 2);
-        numbers.extend(*shape);
-    }
-    numbers.push(labels.len() as u32);
-    numbers.extend(labels.concat());
-    numbers.push(items.len() as u32);
-    numbers.extend(items.concat());
-    encode_all(numbers)
 }

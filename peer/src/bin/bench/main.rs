@@ -2,6 +2,7 @@
 //! alternating rounds of each, and their ratio.
 
 mod check;
+mod desk;
 mod read;
 mod run;
 
@@ -21,6 +22,7 @@ fn main() {
     run::rows();
     read::rows();
     check::rows();
+    desk::rows();
 }
 
 /// Measures and prints a row of the table.

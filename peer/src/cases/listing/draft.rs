@@ -3,7 +3,7 @@
 use crate::checker::Walk;
 use crate::listing::context::{Context, Stack};
 use crate::listing::item::Item;
-use crate::listing::types::{Type, Types};
+use crate::listing::types::{fields, Types};
 use crate::packet::number::encode_all;
 
 #[derive(Clone, Debug, PartialEq)]
@@ -63,12 +63,6 @@ fn put_shape(shape: &Types, numbers: &mut Vec<u32>) {
     let fields = fields(shape);
     numbers.push(fields.len() as u32);
     numbers.extend(fields.iter().flat_map(|field| [field.kind(), field.level()].map(u32::from)));
-}
-
-/// The fields that a shape has.
-pub fn fields(shape: &Types) -> &[Type] {
-    let count = shape.iter().take_while(|field| field.is_some()).count();
-    &shape[..count]
 }
 
 fn put_context(context: &Context, numbers: &mut Vec<u32>) {

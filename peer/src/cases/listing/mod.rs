@@ -1,7 +1,8 @@
 //! Cases for the checker and the eraser: a packet, and a buffer for its code.
 
 mod aimed;
-mod damage;
+pub mod by_hand;
+pub mod damage;
 pub mod draft;
 mod items;
 pub mod premises;

@@ -6,8 +6,10 @@ use crate::lent::{guard, GUARD};
 use std::iter;
 use std::ops::Range;
 
-/// In words, as in bridge.c: call, budget, length, and start and length of three buffers.
-const HEAD: usize = 3 + 2 * 3;
+/// The most buffers that a call has.
+const BUFFERS: usize = 5;
+/// In words, as in bridge.c: call, budget, length, and start and length of each buffer.
+const HEAD: usize = 3 + 2 * BUFFERS;
 /// Where a reply has its answer.
 const ANSWER: Range<usize> = 0..8;
 /// A buffer's address leaves the same rest by this here and in the process.
@@ -15,14 +17,16 @@ const ALIGNMENT: usize = 16;
 
 pub struct Request {
     pub bytes: Vec<u8>,
-    /// Where the buffers lie. The call may only read the first.
+    /// Where the buffers lie, those first that the call may only read.
     pub buffers: Vec<Range<usize>>,
+    only_read: usize,
 }
 
 impl Request {
-    pub fn new<'a>(call: u32, budget: u32, buffers: impl Iterator<Item = &'a [u8]>) -> Self {
-        let mut request = Request { bytes: vec![0; 4 * HEAD], buffers: vec![] };
-        for buffer in buffers {
+    pub fn new(call: u32, budget: u32, read: &[&[u8]], written: &[&[u8]]) -> Self {
+        let (bytes, only_read) = (vec![0; 4 * HEAD], read.len());
+        let mut request = Request { bytes, buffers: vec![], only_read };
+        for buffer in read.iter().chain(written) {
             request.add(buffer);
         }
         request.add_guards(GUARD);
@@ -54,7 +58,7 @@ impl Request {
 
     /// Where the buffers lie that the call may write.
     pub fn written(&self) -> &[Range<usize>] {
-        &self.buffers[1..]
+        &self.buffers[self.only_read..]
     }
 
     /// Where the reply has another byte that was not the call's to write.
@@ -78,16 +82,17 @@ pub fn answer(reply: &[u8]) -> u64 {
 mod tests {
     use super::*;
 
-    const BUFFERS: [&[u8]; 3] = [&[7; 70], &[], &[9; 13]];
+    const READ: [&[u8]; 2] = [&[7; 70], &[8; 5]];
+    const WRITTEN: [&[u8]; 2] = [&[], &[9; 13]];
 
     #[test]
     fn only_the_answer_and_the_written_buffers_may_change() {
-        let request = Request::new(0, 0, BUFFERS.into_iter());
+        let request = Request::new(0, 0, &READ, &WRITTEN);
         assert_eq!(request.spoiled(&request.bytes), None);
         for place in 0..request.bytes.len() {
             let mut reply = request.bytes.clone();
             reply[place] ^= 1;
-            let allowed = ANSWER.contains(&place) || request.buffers[2].contains(&place);
+            let allowed = ANSWER.contains(&place) || request.buffers[3].contains(&place);
             assert_eq!(request.spoiled(&reply), (!allowed).then_some(place));
         }
     }
@@ -96,8 +101,8 @@ mod tests {
     fn buffers_keep_their_alignment_between_guards() {
         let bytes = [5; 40];
         for shift in 0..ALIGNMENT {
-            let buffers = [&bytes[..], &bytes[shift..], &bytes[..shift]];
-            let request = Request::new(0, 0, buffers.into_iter());
+            let buffers = [&bytes[..], &bytes[shift..], &bytes[..shift], &[], &bytes[1..]];
+            let request = Request::new(0, 0, &buffers[..2], &buffers[2..]);
             let mut behind = 4 * HEAD;
             for (place, buffer) in request.buffers.iter().zip(buffers) {
                 assert_eq!(place.start % ALIGNMENT, buffer.as_ptr().addr() % ALIGNMENT);

@@ -1,10 +1,10 @@
 //! Contexts changed, one put in for a label that no item places; shapes changed.
 
-use super::super::draft::{fields, Draft};
+use super::super::draft::Draft;
 use super::super::programs::any_type;
 use crate::listing::context::{Context, Stack};
 use crate::listing::item::Item;
-use crate::listing::types::Type;
+use crate::listing::types::{fields, Type};
 use crate::packet::grammar::LABELS;
 use crate::random::Random;
 

@@ -25,6 +25,8 @@ pub struct Style {
     pub structured: u32,
     /// Whether regions are put in regions, as deep as they go.
     pub nested: bool,
+    /// Whether there are loops, which seldom end.
+    pub loops: bool,
     /// A label drops each register once in so many times.
     pub dropped_once_in: u32,
     /// Whether all contexts list an integer at level 255, so that there is always
@@ -45,6 +47,7 @@ impl Style {
             labels,
             structured: random.pick(&[1, 3, 3, 5, 9]),
             nested: random.once_in(4),
+            loops: true,
             dropped_once_in: random.pick(&[3, 10, 40, 400]),
             sink: random.below(4) > 0,
         }
@@ -75,8 +78,6 @@ pub fn any_program(random: &mut Random, style: Style) -> Draft {
 /// The labels' numbers in any order.
 fn any_names(random: &mut Random, count: usize) -> Vec<u8> {
     let mut names: Vec<u8> = (0..count as u8).collect();
-    for last in (1..count).rev() {
-        names.swap(last, random.below(last as u32 + 1) as usize);
-    }
+    random.shuffle(&mut names);
     names
 }
