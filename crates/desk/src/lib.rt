@@ -1,5 +1,5 @@
-// The C border: calls on numbers and byte buffers, over the proved crates below.
-// Read specs/RunCall.antt first.
+// The desk call on lent words, and the C border: calls on numbers and byte buffers, over the proved crates
+// below. Read specs/Desk.antt first, and specs/RunCall.antt for the border.
 mod answers;
 mod desk_bytes;
 mod desk_call;
