@@ -96,11 +96,12 @@ right-means heap blocks whole =
     false-not-true : {A : Type 0} → false ≡ true → A
     false-not-true q = let z : _≡_ {A = ℕ} 0 1 = cc in absurd (omega arith)
 
-pub sizes-pass : (needed code : ℕ) (right : Bool) (budget : ℕ) → sizesOf needed code right budget .number ≡ 0 → (needed ≤ code) × (right ≡ true)
+pub sizes-pass : (needed code : ℕ) (right : Bool) (budget : ℕ) → sizesOf needed code right budget .number ≡ 0 → (needed ≤ code) × (right ≡ true) × (budget ≤ BUDGET)
 unfolding sizesOf
 sizes-pass needed code right budget =
-    let Goal : Fault → Type 0 = λ (f : Fault). f .number ≡ 0 → (needed ≤ code) × (right ≡ true) in
-    if-less Goal code needed _ _ (λ h q. absurd (omega arith)) (λ h. each-way Goal right _ _ (λ w q. (h, w)) (λ w q. absurd (omega arith)))
+    let Goal : Fault → Type 0 = λ (f : Fault). f .number ≡ 0 → (needed ≤ code) × (right ≡ true) × (budget ≤ BUDGET) in
+    if-less Goal code needed _ _ (λ h q. absurd (omega arith))
+    (λ h. each-way Goal right _ _ (λ w. if-less Goal BUDGET budget _ _ (λ b q. absurd (omega arith)) (λ b q. (h, w, b))) (λ w q. absurd (omega arith)))
 
 -- and so all
 module _ (ns : List ℕ) (code : ℕ) (whole : Bool) (heap blocks regs : List ℕ) (budget : ℕ) (f : Fault) (e : f ≡ laterFault ns code whole heap blocks regs budget) (z : f .number ≡ 0) where

@@ -13,13 +13,13 @@ use Rattle.levels.specs.BitLaws.{and-assoc, and-or-same, or-and-distrib}
 abbrev pub COMPARTMENTS : ℕ
 COMPARTMENTS = 8
 
-transitive : (a b c : ℕ) → bitAnd a b ≡ a → bitAnd b c ≡ b → bitAnd a c ≡ a
+pub transitive : (a b c : ℕ) → bitAnd a b ≡ a → bitAnd b c ≡ b → bitAnd a c ≡ a
 transitive a b c p q = ap (λ (x : ℕ). bitAnd x c) (sym p) ∙ and-assoc a b c ∙ ap (bitAnd a) q ∙ p
 
-join-least : (a b c : ℕ) → bitAnd a c ≡ a → bitAnd b c ≡ b → bitAnd (bitOr a b) c ≡ bitOr a b
+pub join-least : (a b c : ℕ) → bitAnd a c ≡ a → bitAnd b c ≡ b → bitAnd (bitOr a b) c ≡ bitOr a b
 join-least a b c p q = or-and-distrib a b c ∙ ap (λ (x : ℕ). bitOr x (bitAnd b c)) p ∙ ap (bitOr a) q
 
-pub sets : Order
+abbrev pub sets : Order
 sets =
     record {
       Level = λ a. a < 2 ^ COMPARTMENTS;

@@ -73,7 +73,7 @@ module _ (v : ℕ) (regs : List ℕ) (pc : ℕ) (heap : List ℕ) where
   act-any-r0 code = rw (does-any-r0 (kindOf (getD code pc 0))) (sym (through (atR0 v) _ _ _))
 
 -- what r0 holds stays
-abbrev KeepsR0 : List ℕ → Machine → Type 0
+abbrev pub KeepsR0 : List ℕ → Machine → Type 0
 KeepsR0 regs m = getD (m .state .regs) 0 0 ≡ getD regs 0 0
 
 module _ (regs : List ℕ) (pc : ℕ) (heap : List ℕ) where
@@ -124,7 +124,7 @@ module _ (code : List ℕ) where
   after-any-r0 zero v m = refl
   after-any-r0 (suc n) v m = ap (after code n) (step-any-r0 v m) ∙ after-any-r0 n v (stepOf code m)
 
-  after-keeps-r0 : (n : ℕ) (m : Machine) → KeepsR0 (m .state .regs) (after code n m)
+  pub after-keeps-r0 : (n : ℕ) (m : Machine) → KeepsR0 (m .state .regs) (after code n m)
   unfolding after
   after-keeps-r0 zero m = refl
   after-keeps-r0 (suc n) m = after-keeps-r0 n (stepOf code m) ∙ step-keeps-r0 m

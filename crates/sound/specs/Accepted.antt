@@ -1,7 +1,6 @@
--- A packet that is accepted: its listing is within the ranges and well typed, and the registers that the start check looks at are those of its first label.
+-- A packet that is accepted: its listing is within the ranges and well typed.
 use Prim.Native.Nat.{ℕ}
-use mathlib.Core.Path.{_≡_, sym, ap}
-use mathlib.Core.Bool.{Bool}
+use mathlib.Core.Path.{_≡_, sym}
 use mathlib.Core.List.{List}
 use Rattle.levels.specs.Sets.{belowOf, joinOf}
 use Rattle.listing.specs.Listing.{Listing, Ranges}
@@ -9,12 +8,10 @@ use Rattle.listing.specs.Packet.{numbersIn, takenOf}
 use Rattle.listing.specs.Parts.{listingIn}
 use Rattle.listing.specs.Theorems.{taken-is-listed}
 use Rattle.checker.specs.declared.packets.Checked.the-variants.{Accepted}
-use Rattle.checker.specs.Context.{targetOf}
 use Rattle.checker.specs.Judgement.{WellTyped}
 use Rattle.checker.specs.Check.{verdictIn, checkOf}
 use Rattle.checker.specs.CheckLaws.{accepted-taken, verdict-zero}
 use Rattle.checker.specs.Theorems.{accepted-is-typed}
-use Rattle.start.specs.Start.{listedAt, listedFirst}
 
 -- the listing of a packet
 abbrev pub packetListing : List ℕ → Listing
@@ -30,7 +27,3 @@ module _ (bytes : List ℕ) (n : ℕ) (e : checkOf bytes ≡ Accepted n) where
   accepted-typed =
       accepted-is-typed belowOf joinOf (packetListing bytes) accepted-ranges
       (verdict-zero (packetListing bytes) (accepted-taken (verdictIn bytes) n (takenOf bytes) (sym e) .1))
-
-pub listed-by-first : (_⊑_ : ℕ → ℕ → Bool) (_⊔_ : ℕ → ℕ → ℕ) (l : Listing) (w : WellTyped _⊑_ _⊔_ l) → listedFirst (l .labels) (l .items) ≡ targetOf (l .labels) (w .first) .registers
-unfolding listedFirst listedAt
-listed-by-first _⊑_ _⊔_ l w = ap (listedFirst (l .labels)) (w .begins)

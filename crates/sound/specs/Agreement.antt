@@ -8,13 +8,14 @@ use Rattle.choice.specs.Pick.{pick}
 use Rattle.machine.specs.Step.{readOf}
 use Rattle.checker.specs.declared.contexts.Slot.{Slot}
 use Rattle.checker.specs.Context.{Context, slotAt}
+use Rattle.sound.specs.Observer as observer
 use Rattle.sound.specs.Items.{Spot}
 use Rattle.sound.specs.Setting.{Setting, labelIn, WordIn}
 
 module _ (S : Setting) where
   -- an observer sees a level, or it is hidden from him
   abbrev pub Sees : ℕ → ℕ → Type 0
-  Sees o l = S .order .below l o ≡ true
+  Sees o l = observer.Sees (S .order) o l
 
   abbrev pub Hidden : ℕ → ℕ → Type 0
   Hidden o l = Sees o l → ⊥

@@ -15,6 +15,7 @@ use Rattle.checker.specs.Judgement.{Now, due, inside, Typed, T-Eof, T-Due, T-La
 use Rattle.eraser.specs.Erase.{keptOf, neededOf}
 use Rattle.eraser.specs.ItemLaws.{needed-first}
 use Rattle.eraser.specs.PassLaws.{needed-more}
+use Rattle.start.specs.Start.{listedAt, listedFirst}
 use Rattle.sound.specs.Contexts.{goesOn, nowAfter, nowFrom, nowAt}
 use Rattle.sound.specs.Items.{itemAt}
 use Rattle.sound.specs.Labels.{targetIn, once-splits}
@@ -95,6 +96,11 @@ module _ (_⊑_ : ℕ → ℕ → Bool) (_⊔_ : ℕ → ℕ → ℕ) (l : Listi
   pub start-now : nowAt _⊑_ _⊔_ (l .shapes) (l .labels) (l .items) 1 ≡ inside (entered (targetOf (l .labels) (w .first)))
   unfolding nowFrom nowAfter
   start-now = ap (λ (P : List Item). nowAt _⊑_ _⊔_ (l .shapes) (l .labels) P 1) (w .begins)
+
+  -- the registers that the start check looks at are those of the first label
+  pub listed-by-first : listedFirst (l .labels) (l .items) ≡ targetOf (l .labels) (w .first) .registers
+  unfolding listedFirst listedAt
+  listed-by-first = ap (listedFirst (l .labels)) (w .begins)
 
   -- before a halt the context has an empty stack
   pub halt-now : (p : ℕ) → p < length (l .items) → itemAt (l .items) p ≡ Halt

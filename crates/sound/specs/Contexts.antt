@@ -5,7 +5,7 @@ use mathlib.Core.List.{List, [], _∷_}
 use Rattle.listing.specs.declared.items.Item.{Item}
 use Rattle.listing.specs.declared.items.Item.the-variants.{Halt, Jmp, Bnz, Load, Store, Compute, ComputeImmediate, Cpush, Cjmp, Label}
 use Rattle.listing.specs.Listing.{Field, LabelContext}
-use Rattle.checker.specs.Context.{Context, entered, targetOf}
+use Rattle.checker.specs.Context.{entered, targetOf}
 use Rattle.checker.specs.Judgement.{Now, due, inside}
 use Rattle.checker.specs.Rules.{afterOf}
 

@@ -90,13 +90,14 @@ module _ (S : Setting) where
 
       jump : (p′ : ℕ) (t : LabelContext) → ST-RegBank (S .order .below) (S .order .join) (Γ .level) Γ t → nowIn S p′ ≡ inside (entered t)
           → Does S Γ p (λ regs heap. spotAt p′ regs heap)
-      jump p′ t b n = goes p′ (entered t) (enter p′ t (b .registers) n) (keeps (record { stack = sym (b .stack); level = flows (Γ .level) (t .level) (b .level) }))
+      jump p′ t b n = goes p′ (entered t) (enter p′ t (b .registers) n) (keeps (sym (b .stack)) (flows (Γ .level) (t .level) (b .level)))
 
       -- the ways of a branch, at the joined level
       branch : (lr p′ : ℕ) (Γ′ : Context) → Way S Γ p′ Γ′ → Γ′ .stack ≡ Γ .stack → Flows S (S .order .join (Γ .level) lr) (Γ′ .level) → Branch S Γ lr p′ Γ′
       branch lr p′ Γ′ w s f = record {
         way = w;
-        keeps = record { stack = s; level = flows-left (Γ .level) lr (Γ′ .level) f };
+        stack = s;
+        level = flows-left (Γ .level) lr (Γ′ .level) f;
         tested = flows-right (Γ .level) lr (Γ′ .level) f;
       }
 
@@ -122,7 +123,7 @@ module _ (S : Setting) where
           → Does S Γ p (moves (S .target) i p)
       unfolding moves nowAfter goesOn afterOf
       does-item i P (T-Label Γ₁ l P₁ b t) h n = jump p (p + 1) (labelIn S l) b n
-      does-item i P (T-Halt Γ₁ P₁ e t) h n = goes p Γ (record { now = now; fewer = λ r. inl refl }) (keeps (record { stack = refl; level = λ o v. v }))
+      does-item i P (T-Halt Γ₁ P₁ e t) h n = goes p Γ (record { now = now; fewer = λ r. inl refl }) (keeps refl (λ o v. v))
       does-item i P (T-Jmp Γ₁ l P₁ b t) h n = jump p (S .target l) (labelIn S l) b (W .target-now l h)
       does-item i P (T-CondBrnch Γ₁ rs lr l P₁ e b t) h n =
           let on : Context = contextOf (S .order .join (Γ .level) lr) (Γ .stack) (Γ .registers) in

@@ -36,21 +36,17 @@ module _ (S : Setting) (Γ : Context) where
     pub now : nowIn S p ≡ inside Γ′
     pub fewer : Fewer (Γ .registers) (Γ′ .registers)
 
-  -- the stack stays, and the pc level stays or rises
-  pub record Keeps (Γ′ : Context) : Type 0 where
-    pub stack : Γ′ .stack ≡ Γ .stack
-    pub level : Flows S (Γ .level) (Γ′ .level)
-
-  -- what becomes of stack and pc level on the way to a place: only cpush puts a label on the stack, and only cjmp takes one off, to go there
+  -- what becomes of stack and pc level on the way to a place: the pc level stays or rises, but where cjmp takes a label off the stack, to go there; only cpush puts one on
   pub data Flow (p : ℕ) (Γ′ : Context) : Type 0 where
-    keeps : Keeps Γ′ → Flow p Γ′
+    keeps : Γ′ .stack ≡ Γ .stack → Flows S (Γ .level) (Γ′ .level) → Flow p Γ′
     pushes : (l : ℕ) → Γ′ .stack ≡ l ∷ Γ .stack → Flows S (Γ .level) (labelIn S l .level) → Flows S (Γ .level) (Γ′ .level) → Flow p Γ′
     pops : (l : ℕ) → Γ .stack ≡ l ∷ Γ′ .stack → Γ′ .level ≡ labelIn S l .level → p ≡ S .target l → Flow p Γ′
 
   -- one of the two ways of a branch on a register of level l, which flows into the pc level there
   pub record Branch (l p : ℕ) (Γ′ : Context) : Type 0 where
     pub way : Way p Γ′
-    pub keeps : Keeps Γ′
+    pub stack : Γ′ .stack ≡ Γ .stack
+    pub level : Flows S (Γ .level) (Γ′ .level)
     pub tested : Flows S l (Γ′ .level)
 
   -- the context with rd of another kind, at its level

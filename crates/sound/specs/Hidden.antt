@@ -16,7 +16,7 @@ use Rattle.sound.specs.Agreement.{Hidden, Kept, Unchanged, strip}
 use Rattle.sound.specs.AgreementLaws.{sees-or-not, strip-seen, strip-hidden}
 use Rattle.sound.specs.RegisterLaws.{written, none-listed}
 use Rattle.sound.specs.WordLaws.{one-word, stored}
-use Rattle.sound.specs.Effects.{Way, Flow, keeps, pushes, pops, Keeps, retyped, Writable, Does, goes, branches, writes, stores}
+use Rattle.sound.specs.Effects.{Way, Flow, keeps, pushes, pops, Branch, retyped, Writable, Does, goes, branches, writes, stores}
 
 module _ (S : Setting) (o : ℕ) (Γ : Context) where
   -- where a step from a hidden pc level comes to
@@ -54,11 +54,11 @@ module _ (S : Setting) (o : ℕ) (Γ : Context) where
 
     -- the pc level is hidden
     module _ (hidden : Hidden S o (Γ .level)) where
-      quiet-keeps : (p : ℕ) (Γ′ : Context) → Way S Γ p Γ′ → Keeps S Γ Γ′ → Quiet s (spotAt p (s .regs) (s .heap))
-      quiet-keeps p Γ′ w k = stays Γ′ (w .now) (way-unchanged p Γ′ w) (λ v. hidden (k .level o v)) (ap (strip S o) (k .stack))
+      quiet-branch : (l p : ℕ) (Γ′ : Context) → Branch S Γ l p Γ′ → Quiet s (spotAt p (s .regs) (s .heap))
+      quiet-branch l p Γ′ b = stays Γ′ (b .way .now) (way-unchanged p Γ′ (b .way)) (λ v. hidden (b .level o v)) (ap (strip S o) (b .stack))
 
       quiet-goes : (p : ℕ) (Γ′ : Context) → Way S Γ p Γ′ → Flow S Γ p Γ′ → Quiet s (spotAt p (s .regs) (s .heap))
-      quiet-goes p Γ′ w (keeps k) = quiet-keeps p Γ′ w k
+      quiet-goes p Γ′ w (keeps e f) = stays Γ′ (w .now) (way-unchanged p Γ′ w) (λ v. hidden (f o v)) (ap (strip S o) e)
       quiet-goes p Γ′ w (pushes l e f f′) =
           stays Γ′ (w .now) (way-unchanged p Γ′ w) (λ v. hidden (f′ o v)) (ap (strip S o) e ∙ strip-hidden S o l (Γ .stack) (λ v. hidden (f o v)))
       quiet-goes p Γ′ w (pops l e level at) =
@@ -69,6 +69,6 @@ module _ (S : Setting) (o : ℕ) (Γ : Context) where
 
       pub quiet : (p : ℕ) (f : List ℕ → List ℕ → Spot) → Does S Γ p f → Quiet s (f (s .regs) (s .heap))
       quiet p f (goes p′ Γ′ w fl) = quiet-goes p′ Γ′ w fl
-      quiet p f (branches rs l p₁ p₂ Γ₁ Γ₂ k b₁ b₂) = both (Quiet s) _ _ _ (quiet-keeps p₁ Γ₁ (b₁ .way) (b₁ .keeps)) (quiet-keeps p₂ Γ₂ (b₂ .way) (b₂ .keeps))
+      quiet p f (branches rs l p₁ p₂ Γ₁ Γ₂ k b₁ b₂) = both (Quiet s) _ _ _ (quiet-branch l p₁ Γ₁ b₁) (quiet-branch l p₂ Γ₂ b₂)
       quiet p f (writes rd kind v w x n) = stays (retyped S Γ rd kind) n (write-unchanged (p + 1) rd kind _ w (λ y. hidden (w .level o y))) hidden refl
       quiet p f (stores kind l a v w x fl n) = stays Γ n (store-unchanged (p + 1) kind l _ _ (w .word s g) (λ y. hidden (fl o y))) hidden refl

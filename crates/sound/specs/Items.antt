@@ -1,7 +1,6 @@
 -- A machine that steps over every item of a listing, labels and pushes too, and never traps; and what an item needs so that the real machine would not trap. The proofs are about it, and ErasedRun carries them to the real machine.
 use Prim.Native.Nat.{ℕ, zero, suc, _+_, _-_, _<_}
-use mathlib.Core.Bool.{Bool}
-use mathlib.Core.List.{List, [], _∷_}
+use mathlib.Core.List.{List}
 use lib.ListN.{length, getD, set}
 use lib.Dec.{eqb}
 use Rattle.choice.specs.Pick.{pick}

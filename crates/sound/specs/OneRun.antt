@@ -10,6 +10,7 @@ use Rattle.machine.specs.Step.{readOf}
 use Rattle.checker.specs.declared.contexts.Slot.{Slot}
 use Rattle.checker.specs.Context.{Context}
 use Rattle.start.specs.Meaning.{Holds, GoodRows}
+use Rattle.sound.specs.Observer.{Frame}
 use Rattle.sound.specs.Items.{Spot, spotAt, itemAt, moves, movesOf, Ok}
 use Rattle.sound.specs.Setting.{Setting, WordIn, next, after, WellPlaced, Good}
 use Rattle.sound.specs.RegisterLaws.{write-length, written, none-pointer}
@@ -19,26 +20,21 @@ use Rattle.sound.specs.Effects.{Way, retyped, Does, goes, branches, writ
 use Rattle.sound.specs.EffectLaws.{does, needs-met}
 
 module _ (S : Setting) where
-  -- an address that is no block word
-  abbrev pub Outside : ℕ → Type 0
-  Outside a = (kind level : ℕ) → WordIn S a kind level → ⊥
-
-  -- a heap has the other's length, and outside blocks its words
-  pub record Frame (heap heap′ : List ℕ) : Type 0 where
-    pub as-long : length heap′ ≡ length heap
-    pub outside : (a : ℕ) → Outside a → getD heap′ a 0 ≡ getD heap a 0
+  -- words outside blocks stay
+  abbrev pub FrameIn : List ℕ → List ℕ → Type 0
+  FrameIn = Frame (S .shapes) (S .rows)
 
   -- a run that stands well again
   pub record Onward (s s′ : Spot) : Type 0 where
     pub context : Context
     pub well : Good S context s′
-    pub frame : Frame (s .heap) (s′ .heap)
+    pub frame : FrameIn (s .heap) (s′ .heap)
 
   -- a frame holds from a heap to itself, and from one over the next to the last
-  frame-none : (h : List ℕ) → Frame h h
+  frame-none : (h : List ℕ) → FrameIn h h
   frame-none h = record { as-long = refl; outside = λ a out. refl }
 
-  frame-on : (h₁ h₂ h₃ : List ℕ) → Frame h₁ h₂ → Frame h₂ h₃ → Frame h₁ h₃
+  frame-on : (h₁ h₂ h₃ : List ℕ) → FrameIn h₁ h₂ → FrameIn h₂ h₃ → FrameIn h₁ h₃
   frame-on h₁ h₂ h₃ f g = record { as-long = g .as-long ∙ f .as-long; outside = λ a out. g .outside a out ∙ f .outside a out }
 
   module _ (Γ : Context) (s : Spot) (g : Good S Γ s) where

@@ -8,15 +8,16 @@ use lib.ListN.{length, getD}
 use Rattle.machine.specs.Step.{readOf}
 use Rattle.machine.specs.R0Laws.{reads-plain}
 use Rattle.listing.specs.Limits.{TOP-PART}
-use Rattle.listing.specs.Listing.{Register, LabelContext, Each}
+use Rattle.listing.specs.Listing.{Register, LabelContext}
 use Rattle.checker.specs.Context.{Context, slotAt, noRegisters, entered}
 use Rattle.checker.specs.Judgement.{inside}
 use Rattle.start.specs.Meaning.{Holds, HoldsRegister, Passing}
+use Rattle.sound.specs.Observer.{StartsAgree}
 use Rattle.sound.specs.Items.{spotAt, Ok}
-use Rattle.sound.specs.Setting.{Setting, nowIn, WordIn, after, Halted, WellPlaced, Good}
+use Rattle.sound.specs.Setting.{Setting, nowIn, after, Halted, WellPlaced, Good}
 use Rattle.sound.specs.Agreement.{Sees, Agree}
 use Rattle.sound.specs.RegisterLaws.{read-other, none-pointer, none-listed, listed-each}
-use Rattle.sound.specs.OneRun.{Frame, well-after, ok-after}
+use Rattle.sound.specs.OneRun.{FrameIn, well-after, ok-after}
 use Rattle.sound.specs.TwoRuns.{halts-agree}
 
 -- t is the first label's context, and p the place behind it
@@ -35,12 +36,11 @@ module _ (S : Setting) (t : LabelContext) where
   }
 
   module _ (o : ℕ) where
-    -- 01: the block words, and the registers that the label lists, at levels at or below the observer's are equal
-    pub record StartsAgree (regs₁ regs₂ heap₁ heap₂ : List ℕ) : Type 0 where
-      pub registers : Each (λ (x : Register). Sees S o (x .level) → getD regs₁ (x .index) 0 ≡ getD regs₂ (x .index) 0) (t .registers)
-      pub words : (a kind level : ℕ) → WordIn S a kind level → Sees S o level → getD heap₁ a 0 ≡ getD heap₂ a 0
+    -- agreement for an observer, in 01's words and over spots
+    abbrev pub AgreeAtStart : List ℕ → List ℕ → List ℕ → List ℕ → Type 0
+    AgreeAtStart = StartsAgree (S .order) o (S .shapes) (S .rows) (t .registers)
 
-    pub starts-agree : (p : ℕ) (regs₁ regs₂ heap₁ heap₂ : List ℕ) → StartsAgree regs₁ regs₂ heap₁ heap₂
+    pub starts-agree : (p : ℕ) (regs₁ regs₂ heap₁ heap₂ : List ℕ) → AgreeAtStart regs₁ heap₁ regs₂ heap₂
         → Agree S o (entered t) (entered t) (spotAt p regs₁ heap₁) (spotAt p regs₂ heap₂)
     starts-agree p regs₁ regs₂ heap₁ heap₂ a = record {
       registers = λ r h l₁ l₂. (refl, equal r h l₁);
@@ -60,12 +60,12 @@ module _ (S : Setting) (t : LabelContext) where
       pub start-ok : Ok (S .items) (after S n (spotAt p regs heap))
       start-ok = ok-after S W n (entered t) (spotAt p regs heap) (start-well p regs heap now sixteen passing)
 
-      pub start-frame : Frame S heap (after S n (spotAt p regs heap) .heap)
+      pub start-frame : FrameIn S heap (after S n (spotAt p regs heap) .heap)
       start-frame = well-after S W n (entered t) (spotAt p regs heap) (start-well p regs heap now sixteen passing) .frame
 
     -- where both have halted they agree for the observer
     pub starts-halts-agree : (o : ℕ) (regs₁ regs₂ heap₁ heap₂ : List ℕ) → length regs₁ ≡ TOP-PART + 1 → length regs₂ ≡ TOP-PART + 1
-        → Passing (S .shapes) (t .registers) heap₁ (S .rows) regs₁ → Passing (S .shapes) (t .registers) heap₂ (S .rows) regs₂ → StartsAgree o regs₁ regs₂ heap₁ heap₂
+        → Passing (S .shapes) (t .registers) heap₁ (S .rows) regs₁ → Passing (S .shapes) (t .registers) heap₂ (S .rows) regs₂ → AgreeAtStart o regs₁ heap₁ regs₂ heap₂
         → (n₁ n₂ : ℕ) → Halted S (after S n₁ (spotAt p regs₁ heap₁)) → Halted S (after S n₂ (spotAt p regs₂ heap₂))
         → (Γ₁ Γ₂ : Context) → nowIn S (after S n₁ (spotAt p regs₁ heap₁) .place) ≡ inside Γ₁ → nowIn S (after S n₂ (spotAt p regs₂ heap₂) .place) ≡ inside Γ₂
         → Agree S o Γ₁ Γ₂ (after S n₁ (spotAt p regs₁ heap₁)) (after S n₂ (spotAt p regs₂ heap₂))

@@ -61,7 +61,7 @@ module _ (S : Setting) (o : ℕ) where
         → Linked (spotAt p₁ (s₁ .regs) (s₁ .heap)) (spotAt p₂ (s₂ .regs) (s₂ .heap))
     on-branches l p₁ p₂ Γ₁ Γ₂ h b₁ b₂ =
         on-ways p₁ p₂ Γ₁ Γ₂ (b₁ .way) (b₂ .way)
-        (apart (λ v. h (b₁ .tested o v)) (λ v. h (b₂ .tested o v)) (ap (strip S o) (b₁ .keeps .stack ∙ sym (b₂ .keeps .stack))))
+        (apart (λ v. h (b₁ .tested o v)) (λ v. h (b₂ .tested o v)) (ap (strip S o) (b₁ .stack ∙ sym (b₂ .stack))))
 
     pub linked : (p : ℕ) (f : List ℕ → List ℕ → Spot) → Does S Γ p f → Linked (f (s₁ .regs) (s₁ .heap)) (f (s₂ .regs) (s₂ .heap))
     linked p f (goes p′ Γ′ w fl) = on-one-way p′ Γ′ w
