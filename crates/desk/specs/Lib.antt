@@ -17,4 +17,5 @@ pub mod VansDesk  -- vans_desk: the desk call on byte buffers
 pub mod VansDeskLaws  -- for the proofs of its code behind the checker
 pub mod Tasks  -- the calls on packets by their task
 pub mod TaskLaws  -- for the proofs of the code of the tasks
+pub mod Theorems  -- vans_desk is the desk call on its buffers' words
 pub mod Unique  -- any two results that meet the promise are equal

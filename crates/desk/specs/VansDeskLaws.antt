@@ -158,7 +158,7 @@ of-buffers ns code heap blocks regs h b r budget l eh eb er p = p ∙ (λ i. ser
 
 pub ruleset opens = (refl, ready-fits, of-buffers)
 
-whole-means : (code heap blocks regs : ℕ) → wholeOf code heap blocks regs ≡ true → (code % 4 + heap % 4 + blocks % 4 ≡ 0) × (regs ≡ REGS-BYTES)
+pub whole-means : (code heap blocks regs : ℕ) → wholeOf code heap blocks regs ≡ true → (code % 4 + heap % 4 + blocks % 4 ≡ 0) × (regs ≡ REGS-BYTES)
 unfolding wholeOf
 whole-means code heap blocks regs =
     if-equal (λ (t : Bool). t ≡ true → (code % 4 + heap % 4 + blocks % 4 ≡ 0) × (regs ≡ REGS-BYTES)) (code % 4 + heap % 4 + blocks % 4) 0 _ _

@@ -72,9 +72,9 @@ module _ (_⊑_ : ℕ → ℕ → Bool) (_⊔_ : ℕ → ℕ → ℕ) (shapes : 
   open-goes-on P Γ (T-Cpush Γ₁ l P₁ d e t) = kept-later (Cpush l) P₁ (open-goes-on P₁ _ t)
   open-goes-on P Γ (T-Cjmp Γ₁ l P₁ e m t) = kept-here (Cjmp l) P₁ refl
 
-  -- a halt stands in an open block with an empty stack
-  halt-inside : (n : Now) (P : List Item) → Typing n (Halt ∷ P) → (Γ : Context) × (n ≡ inside Γ) × (Γ .stack ≡ [])
-  halt-inside n P (T-Halt Γ P₁ e t) = (Γ, refl, e)
+  -- a halt stands in an open block
+  halt-inside : (n : Now) (P : List Item) → Typing n (Halt ∷ P) → (Γ : Context) × (n ≡ inside Γ)
+  halt-inside n P (T-Halt Γ P₁ e t) = (Γ, refl)
 
 module _ (_⊑_ : ℕ → ℕ → Bool) (_⊔_ : ℕ → ℕ → ℕ) (l : Listing) (w : WellTyped _⊑_ _⊔_ l) where
   -- what stands from a place on is typed in the context before the place
@@ -102,7 +102,7 @@ module _ (_⊑_ : ℕ → ℕ → Bool) (_⊔_ : ℕ → ℕ → ℕ) (l : Listi
   unfolding listedFirst listedAt
   listed-by-first = ap (listedFirst (l .labels)) (w .begins)
 
-  -- before a halt the context has an empty stack
+  -- before a halt there is a context
   pub halt-now : (p : ℕ) → p < length (l .items) → itemAt (l .items) p ≡ Halt
-      → (Γ : Context) × (nowAt _⊑_ _⊔_ (l .shapes) (l .labels) (l .items) p ≡ inside Γ) × (Γ .stack ≡ [])
+      → (Γ : Context) × (nowAt _⊑_ _⊔_ (l .shapes) (l .labels) (l .items) p ≡ inside Γ)
   halt-now p h e = halt-inside _⊑_ _⊔_ (l .shapes) (l .labels) _ _ (rw e at (item-typed p h))

@@ -47,14 +47,14 @@ module _ (S : Setting) where
         agree-reads S o Γ Γ s₁ s₂ a r listed listed (rw (ap (λ (x : Slot). x .level) e) (f o v))
 
     -- a pointer and a field of its shape give a word
-    field-address : (r τ lr c kind l : ℕ) → slotAt (Γ .registers) r ≡ typed τ lr → IsField (S .shapes) τ c kind l → Flows S lr l
-        → Address S Γ kind l (λ regs heap. readOf regs r + c)
-    field-address r τ lr c kind l e f fl = record {
+    field-address : (r τ lr c kind l : ℕ) → slotAt (Γ .registers) r ≡ typed τ lr → IsField (S .shapes) τ c kind l
+        → Address S Γ kind l lr (λ regs heap. readOf regs r + c)
+    field-address r τ lr c kind l e f = record {
       word = λ s g. block-fields (S .shapes) (S .rows) (readOf (s .regs) r) (τ - 1) c kind l
           (subst (λ (k : ℕ). Holds (S .rows) k (readOf (s .regs) r)) (ap (λ (x : Slot). x .kind) e) (g .registers r) (f .pointer))
           (f .has)
           (λ i. record { kind = f .kind-is i; level = f .level-is i });
-      known = λ o s₁ s₂ g₁ g₂ a v. ap (λ (x : ℕ). x + c) (read-known r τ lr l e fl o s₁ s₂ g₁ g₂ a v);
+      known = λ o s₁ s₂ g₁ g₂ a v. ap (λ (x : ℕ). x + c) (read-known r τ lr lr e (λ o v. v) o s₁ s₂ g₁ g₂ a v);
     }
 
     -- what is computed is an integer
@@ -68,21 +68,19 @@ module _ (S : Setting) where
       known = read-known r kind l l e (λ o v. v);
     }
 
-    word-value : (kind lw l : ℕ) (a : List ℕ → List ℕ → ℕ) → Address S Γ kind lw a → Flows S lw l → Value S Γ kind l (λ regs heap. getD heap (a regs heap) 0)
-    word-value kind lw l a w f = record {
+    word-value : (kind lw la l : ℕ) (a : List ℕ → List ℕ → ℕ) → Address S Γ kind lw la a → Flows S lw l → Flows S la l → Value S Γ kind l (λ regs heap. getD heap (a regs heap) 0)
+    word-value kind lw la l a w f fa = record {
       holds = λ s g. g .words _ kind lw (w .word s g);
-      known = λ o s₁ s₂ g₁ g₂ agree v. agree .words _ kind lw (w .word s₁ g₁) (f o v) ∙ ap (λ (x : ℕ). getD (s₂ .heap) x 0) (w .known o s₁ s₂ g₁ g₂ agree (f o v));
+      known = λ o s₁ s₂ g₁ g₂ agree v. agree .words _ kind lw (w .word s₁ g₁) (f o v) ∙ ap (λ (x : ℕ). getD (s₂ .heap) x 0) (w .known o s₁ s₂ g₁ g₂ agree (fa o v));
     }
 
     module _ (p : ℕ) where
       -- arithmetic and load: a value that flows into rd is written
-      write : (rd kd ld kind : ℕ) (v : List ℕ → List ℕ → ℕ) → 0 < rd → rd ≤ TOP-PART → slotAt (Γ .registers) rd ≡ typed kd ld → Flows S (Γ .level) ld → Value S Γ kind ld v
+      write : (rd kd ld kind l : ℕ) (v : List ℕ → List ℕ → ℕ) → 0 < rd → rd ≤ TOP-PART → slotAt (Γ .registers) rd ≡ typed kd ld → Value S Γ kind l v → Flows S (Γ .level) l → Flows S l ld
           → nowIn S (p + 1) ≡ inside (retyped S Γ rd kind) → Does S Γ p (λ regs heap. spotAt (p + 1) (writeOf regs rd (v regs heap)) heap)
-      write rd kd ld kind v z h e f x n =
-          let at : ld ≡ slotAt (Γ .registers) rd .level = ap (λ (y : Slot). y .level) (sym e) in
-          writes rd kind v
-          (record { not-r0 = z; within = h; listed = ap (λ (y : Slot). y .listed) e; level = subst (λ (l : ℕ). Flows S (Γ .level) l) at f })
-          (subst (λ (l : ℕ). Value S Γ kind l v) at x) n
+      write rd kd ld kind l v z h e x fp f n =
+          writes rd kind l v (record { not-r0 = z; within = h; listed = ap (λ (y : Slot). y .listed) e }) x fp
+          (subst (λ (m : ℕ). Flows S l m) (ap (λ (y : Slot). y .level) (sym e)) f) n
 
       -- the ways to the place behind a label: it lists what is listed
       enter : (p′ : ℕ) (t : LabelContext) → Lists (Γ .registers) (t .registers) → nowIn S p′ ≡ inside (entered t) → Way S Γ p′ (entered t)
@@ -103,8 +101,8 @@ module _ (S : Setting) where
 
     -- an address that an item uses lies in the heap
     module _ (s : Spot) (g : Good S Γ s) where
-      within-heap : (kind l : ℕ) (a : List ℕ → List ℕ → ℕ) → Address S Γ kind l a → a (s .regs) (s .heap) < length (s .heap)
-      within-heap kind l a w = word-within S Γ s g _ kind l (w .word s g)
+      within-heap : (kind l la : ℕ) (a : List ℕ → List ℕ → ℕ) → Address S Γ kind l la a → a (s .regs) (s .heap) < length (s .heap)
+      within-heap kind l la a w = word-within S Γ s g _ kind l (w .word s g)
 
       item-needs : (i : Item) (P : List Item) → TypedIn S (inside Γ) (i ∷ P) → Needs i (s .regs) (s .heap)
       item-needs i P (T-Label Γ₁ l P₁ b t) = tt
@@ -113,8 +111,8 @@ module _ (S : Setting) where
       item-needs i P (T-CondBrnch Γ₁ rs lr l P₁ e b t) = tt
       item-needs i P (T-Arith Γ₁ op rd rs rt kd ld ls lt P₁ z ed es et le t) = tt
       item-needs i P (T-Arithi Γ₁ op rd rs j kd ld ls P₁ z ed es le t) = tt
-      item-needs i P (T-Load Γ₁ rd rs c τ kd ld ls kc lc P₁ z ed es f le le₂ t) = within-heap kc lc _ (field-address rs τ ls c kc lc es f (flows-right (Γ .level) ls lc (flows _ lc le)))
-      item-needs i P (T-Store Γ₁ rd c rs τ ld kind ls P₁ ed f es le t) = within-heap kind ls _ (field-address rd τ ld c kind ls ed f (flows-right (Γ .level) ld ls (flows _ ls le)))
+      item-needs i P (T-Load Γ₁ rd rs c τ kd ld ls kc lc P₁ z ed es f le le₂ t) = within-heap kc lc ls _ (field-address rs τ ls c kc lc es f)
+      item-needs i P (T-Store Γ₁ rd c rs τ ld kind ls P₁ ed f es le t) = within-heap kind ls ld _ (field-address rd τ ld c kind ls ed f)
       item-needs i P (T-Cpush Γ₁ l P₁ d le t) = tt
       item-needs i P (T-Cjmp Γ₁ l P₁ e m t) = tt
 
@@ -132,23 +130,28 @@ module _ (S : Setting) where
           (branch p lr (p + 1) on (record { now = n′; fewer = λ r. inl refl }) refl (λ o v. v))
           (branch p lr (S .target l) (entered (labelIn S l)) (enter p (S .target l) (labelIn S l) (b .registers) (W .target-now l (h .1))) (sym (b .stack)) (flows _ _ (b .level)))
       does-item i P (T-Arith Γ₁ op rd rs rt kd ld ls lt P₁ z ed es et le t) h n =
-          let both : Flows S (S .order .join (Γ .level) ls) ld = flows-left _ lt ld (flows _ ld le) in
-          let a : Known S Γ ld (λ regs heap. readOf regs rs) = read-known rs INTEGER ls ld es (flows-right (Γ .level) ls ld both) in
-          let b : Known S Γ ld (λ regs heap. readOf regs rt) = read-known rt INTEGER lt ld et (flows-right _ lt ld (flows _ ld le)) in
-          write p rd kd ld INTEGER (λ regs heap. computeOf op (readOf regs rs) (readOf regs rt)) z (h .1 .1) ed (flows-left (Γ .level) ls ld both)
-          (computed ld _ (λ o s₁ s₂ g₁ g₂ agree v i. computeOf op (a o s₁ s₂ g₁ g₂ agree v i) (b o s₁ s₂ g₁ g₂ agree v i))) n
+          let l : ℕ = S .order .join (S .order .join (Γ .level) ls) lt in
+          let first : Flows S (S .order .join (Γ .level) ls) l = flows-left _ lt l (λ o v. v) in
+          let a : Known S Γ l (λ regs heap. readOf regs rs) = read-known rs INTEGER ls l es (flows-right (Γ .level) ls l first) in
+          let b : Known S Γ l (λ regs heap. readOf regs rt) = read-known rt INTEGER lt l et (flows-right _ lt l (λ o v. v)) in
+          write p rd kd ld INTEGER l (λ regs heap. computeOf op (readOf regs rs) (readOf regs rt)) z (h .1 .1) ed
+          (computed l _ (λ o s₁ s₂ g₁ g₂ agree v i. computeOf op (a o s₁ s₂ g₁ g₂ agree v i) (b o s₁ s₂ g₁ g₂ agree v i)))
+          (flows-left (Γ .level) ls l first) (flows l ld le) n
       does-item i P (T-Arithi Γ₁ op rd rs j kd ld ls P₁ z ed es le t) h n =
-          let a : Known S Γ ld (λ regs heap. readOf regs rs) = read-known rs INTEGER ls ld es (flows-right (Γ .level) ls ld (flows _ ld le)) in
-          write p rd kd ld INTEGER (λ regs heap. computeOf (op - 5) (readOf regs rs) (extendOf (immediateOf j))) z (h .1 .1) ed (flows-left (Γ .level) ls ld (flows _ ld le))
-          (computed ld _ (λ o s₁ s₂ g₁ g₂ agree v i. computeOf (op - 5) (a o s₁ s₂ g₁ g₂ agree v i) (extendOf (immediateOf j)))) n
+          let l : ℕ = S .order .join (Γ .level) ls in
+          let a : Known S Γ l (λ regs heap. readOf regs rs) = read-known rs INTEGER ls l es (flows-right (Γ .level) ls l (λ o v. v)) in
+          write p rd kd ld INTEGER l (λ regs heap. computeOf (op - 5) (readOf regs rs) (extendOf (immediateOf j))) z (h .1 .1) ed
+          (computed l _ (λ o s₁ s₂ g₁ g₂ agree v i. computeOf (op - 5) (a o s₁ s₂ g₁ g₂ agree v i) (extendOf (immediateOf j))))
+          (flows-left (Γ .level) ls l (λ o v. v)) (flows l ld le) n
       does-item i P (T-Load Γ₁ rd rs c τ kd ld ls kc lc P₁ z ed es f le le₂ t) h n =
           let is : fieldOf (S .shapes) (slotAt (Γ .registers) rs .kind) c .kind ≡ kc = ap (λ (x : Slot). fieldOf (S .shapes) (x .kind) c .kind) es ∙ f .kind-is in
-          write p rd kd ld kc (λ regs heap. getD heap (readOf regs rs + c) 0) z (h .0 .1) ed (λ o v. flows-left (Γ .level) ls lc (flows _ lc le) o (flows lc ld le₂ o v))
-          (word-value kc lc ld (λ regs heap. readOf regs rs + c) (field-address rs τ ls c kc lc es f (flows-right (Γ .level) ls lc (flows _ lc le))) (flows lc ld le₂))
+          write p rd kd ld kc lc (λ regs heap. getD heap (readOf regs rs + c) 0) z (h .0 .1) ed
+          (word-value kc lc ls lc (λ regs heap. readOf regs rs + c) (field-address rs τ ls c kc lc es f) (λ o v. v) (flows-right (Γ .level) ls lc (flows _ lc le)))
+          (flows-left (Γ .level) ls lc (flows _ lc le)) (flows lc ld le₂)
           (n ∙ ap (λ (k : ℕ). inside (retyped S Γ rd k)) is)
       does-item i P (T-Store Γ₁ rd c rs τ ld kind ls P₁ ed f es le t) h n =
-          stores kind ls (λ regs heap. readOf regs rd + c) (λ regs heap. readOf regs rs) (field-address rd τ ld c kind ls ed f (flows-right (Γ .level) ld ls (flows _ ls le)))
-          (read-value rs kind ls es) (flows-left (Γ .level) ld ls (flows _ ls le)) n
+          stores kind ls ld (λ regs heap. readOf regs rd + c) (λ regs heap. readOf regs rs) (field-address rd τ ld c kind ls ed f)
+          (read-value rs kind ls es) (flows-left (Γ .level) ld ls (flows _ ls le)) (flows-right (Γ .level) ld ls (flows _ ls le)) n
       does-item i P (T-Cpush Γ₁ l P₁ d le t) h n =
           goes (p + 1) _ (record { now = n; fewer = λ r. inl refl }) (pushes l refl (flows (Γ .level) (labelIn S l .level) le) (λ o v. v))
       does-item i P (T-Cjmp Γ₁ l P₁ e m t) h n = goes (S .target l) (entered (labelIn S l)) (enter p (S .target l) (labelIn S l) m (W .target-now l h)) (pops l e refl refl)

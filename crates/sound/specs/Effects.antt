@@ -22,14 +22,14 @@ module _ (S : Setting) (Γ : Context) where
   Known l f =
       (o : ℕ) (s₁ s₂ : Spot) → Good S Γ s₁ → Good S Γ s₂ → Agree S o Γ Γ s₁ s₂ → Sees S o l → f (s₁ .regs) (s₁ .heap) ≡ f (s₂ .regs) (s₂ .heap)
 
-  -- such a value, of a kind; such an address, of a word of this kind and level
+  -- a value of a kind, known at level l; the address, known at level la, of a word of a kind and a level
   pub record Value (kind l : ℕ) (f : List ℕ → List ℕ → ℕ) : Type 0 where
     pub holds : (s : Spot) → Good S Γ s → Holds (S .rows) kind (f (s .regs) (s .heap))
     pub known : Known l f
 
-  pub record Address (kind l : ℕ) (f : List ℕ → List ℕ → ℕ) : Type 0 where
+  pub record Address (kind l la : ℕ) (f : List ℕ → List ℕ → ℕ) : Type 0 where
     pub word : (s : Spot) → Good S Γ s → WordIn S (f (s .regs) (s .heap)) kind l
-    pub known : Known l f
+    pub known : Known la f
 
   -- a place with its context, to which a run may go with the registers that it has
   pub record Way (p : ℕ) (Γ′ : Context) : Type 0 where
@@ -53,19 +53,18 @@ module _ (S : Setting) (Γ : Context) where
   abbrev pub retyped : ℕ → ℕ → Context
   retyped rd kind = contextOf (Γ .level) (Γ .stack) (set (Γ .registers) rd (typed kind (slotAt (Γ .registers) rd .level)))
 
-  -- a register that may be written: not r0, listed, at a level not below the pc level
+  -- a register that may be written: not r0, and listed
   pub record Writable (rd : ℕ) : Type 0 where
     pub not-r0 : 0 < rd
     pub within : rd ≤ TOP-PART
     pub listed : slotAt (Γ .registers) rd .listed ≡ true
-    pub level : Flows S (Γ .level) (slotAt (Γ .registers) rd .level)
 
   -- what the item at place p does with registers and heap, and what is known of it
   pub data Does (p : ℕ) : (List ℕ → List ℕ → Spot) → Type 0 where
     goes : (p′ : ℕ) (Γ′ : Context) → Way p′ Γ′ → Flow p′ Γ′ → Does p (λ regs heap. spotAt p′ regs heap)
     branches : (rs l p₁ p₂ : ℕ) (Γ₁ Γ₂ : Context) → Known l (λ regs heap. readOf regs rs) → Branch l p₁ Γ₁ → Branch l p₂ Γ₂
         → Does p (λ regs heap. pick (eqb (readOf regs rs) 0) (spotAt p₁ regs heap) (spotAt p₂ regs heap))
-    writes : (rd kind : ℕ) (v : List ℕ → List ℕ → ℕ) → Writable rd → Value kind (slotAt (Γ .registers) rd .level) v → nowIn S (p + 1) ≡ inside (retyped rd kind)
-        → Does p (λ regs heap. spotAt (p + 1) (writeOf regs rd (v regs heap)) heap)
-    stores : (kind l : ℕ) (a v : List ℕ → List ℕ → ℕ) → Address kind l a → Value kind l v → Flows S (Γ .level) l → nowIn S (p + 1) ≡ inside Γ
-        → Does p (λ regs heap. spotAt (p + 1) regs (set heap (a regs heap) (v regs heap)))
+    writes : (rd kind l : ℕ) (v : List ℕ → List ℕ → ℕ) → Writable rd → Value kind l v → Flows S (Γ .level) l → Flows S l (slotAt (Γ .registers) rd .level)
+        → nowIn S (p + 1) ≡ inside (retyped rd kind) → Does p (λ regs heap. spotAt (p + 1) (writeOf regs rd (v regs heap)) heap)
+    stores : (kind l la : ℕ) (a v : List ℕ → List ℕ → ℕ) → Address kind l la a → Value kind l v → Flows S (Γ .level) l → Flows S la l
+        → nowIn S (p + 1) ≡ inside Γ → Does p (λ regs heap. spotAt (p + 1) regs (set heap (a regs heap) (v regs heap)))

@@ -70,5 +70,5 @@ module _ (S : Setting) (o : ℕ) (Γ : Context) where
       pub quiet : (p : ℕ) (f : List ℕ → List ℕ → Spot) → Does S Γ p f → Quiet s (f (s .regs) (s .heap))
       quiet p f (goes p′ Γ′ w fl) = quiet-goes p′ Γ′ w fl
       quiet p f (branches rs l p₁ p₂ Γ₁ Γ₂ k b₁ b₂) = both (Quiet s) _ _ _ (quiet-branch l p₁ Γ₁ b₁) (quiet-branch l p₂ Γ₂ b₂)
-      quiet p f (writes rd kind v w x n) = stays (retyped S Γ rd kind) n (write-unchanged (p + 1) rd kind _ w (λ y. hidden (w .level o y))) hidden refl
-      quiet p f (stores kind l a v w x fl n) = stays Γ n (store-unchanged (p + 1) kind l _ _ (w .word s g) (λ y. hidden (fl o y))) hidden refl
+      quiet p f (writes rd kind l v w x fp fl n) = stays (retyped S Γ rd kind) n (write-unchanged (p + 1) rd kind _ w (λ y. hidden (fp o (fl o y)))) hidden refl
+      quiet p f (stores kind l la a v w x fp fa n) = stays Γ n (store-unchanged (p + 1) kind l _ _ (w .word s g) (λ y. hidden (fp o y))) hidden refl

@@ -3,7 +3,7 @@ use Prim.Native.Nat.{ℕ, _≤_}
 use mathlib.Core.Path.{_≡_, refl, sym, ap, subst, _∙_}
 use mathlib.Core.Bool.{Bool}
 use mathlib.Core.Logic.{_⊎_}
-use mathlib.Core.List.{List, []}
+use mathlib.Core.List.{List}
 use lib.ListN.{length}
 use Rattle.choice.specs.Pick.{not-less}
 use Rattle.machine.specs.Numbers.{HALTED, RUNNING, CODE-WORDS, HEAP-WORDS, BUDGET}
@@ -31,7 +31,7 @@ listingCode l = codeOf (addressesOf (l .items)) (l .items)
 abbrev pub ranOf : Listing → List ℕ → List ℕ → ℕ → Machine
 ranOf l regs heap n = after (listingCode l) n (machineAt regs 0 RUNNING heap)
 
--- a machine has halted where a run over the items of a listing from a spot stands at a halt, in the context that the pc tells, whose stack is empty
+-- a machine has halted where a run over the items of a listing from a spot stands at a halt, in the context that the pc tells
 pub record Halted (_⊑_ : ℕ → ℕ → Bool) (_⊔_ : ℕ → ℕ → ℕ) (l : Listing) (s : Spot) (m : Machine) : Type 0 where
   pub moved : ℕ
   pub at-halt : itemAt (l .items) (movesIn (l .items) moved s .place) ≡ Halt
@@ -39,7 +39,6 @@ pub record Halted (_⊑_ : ℕ → ℕ → Bool) (_⊔_ : ℕ → ℕ → ℕ) (
   pub context : Context
   pub before-halt : nowAt _⊑_ _⊔_ (l .shapes) (l .labels) (l .items) (movesIn (l .items) moved s .place) ≡ inside context
   pub by-pc : haltContext _⊑_ _⊔_ l (m .state .pc) ≡ inside context
-  pub empty-stack : context .stack ≡ []
 
 module _ (_⊑_ : ℕ → ℕ → Bool) (_⊔_ : ℕ → ℕ → ℕ) (l : Listing) (r : Ranges l) (w : WellTyped _⊑_ _⊔_ l) where
   -- its code is laid out for it
@@ -78,5 +77,4 @@ module _ (_⊑_ : ℕ → ℕ → Bool) (_⊔_ : ℕ → ℕ → ℕ) (l : Listi
           context = inside-at .0;
           before-halt = inside-at .1;
           by-pc = ap (λ (x : Machine). haltContext _⊑_ _⊔_ l (x .state .pc)) (h .0) ∙ halt-context-at _⊑_ _⊔_ l (s .place) (ok (start-follows .moved) .stands) (ap keptOf (h .1)) ∙ inside-at .1;
-          empty-stack = inside-at .2;
         }

@@ -57,7 +57,7 @@ module _ (S : Setting) where
     onward : (p : ℕ) (f : List ℕ → List ℕ → Spot) → Does S Γ p f → Onward s (f (s .regs) (s .heap))
     onward p f (goes p′ Γ′ w fl) = on-a-way p′ Γ′ w
     onward p f (branches rs l p₁ p₂ Γ₁ Γ₂ k b₁ b₂) = both (Onward s) _ _ _ (on-a-way p₁ Γ₁ (b₁ .way)) (on-a-way p₂ Γ₂ (b₂ .way))
-    onward p f (writes rd kind v w x n) = record {
+    onward p f (writes rd kind l v w x fp fl n) = record {
       context = retyped S Γ rd kind;
       well = record {
         now = n;
@@ -70,7 +70,7 @@ module _ (S : Setting) where
       };
       frame = frame-none (s .heap);
     }
-    onward p f (stores kind l a v w x fl n) =
+    onward p f (stores kind l la a v w x fp fa n) =
         let a₀ : ℕ = a (s .regs) (s .heap) in
         let v₀ : ℕ = v (s .regs) (s .heap) in
         let here : WordIn S a₀ kind l = w .word s g in

@@ -40,17 +40,17 @@ module _ (packet code heap blocks regs : List ℕ) (budget : ℕ) where
 
   module _ (n : ℕ) (e : checkOf packet ≡ Accepted n) (z : laterFault (numbersIn packet) (length code) true heap blocks regs budget .number ≡ 0) where
     -- neither sizes nor start refuse
-    size-or-start : (sizesOf (neededOf (itemsIn (numbersIn packet))) (length code) (rightSizes (length heap) (length blocks) true) budget .number ≡ 0)
+    sizes-and-start : (sizesOf (neededOf (itemsIn (numbersIn packet))) (length code) (rightSizes (length heap) (length blocks) true) budget .number ≡ 0)
         × (startOf (numbersIn packet) heap blocks regs .number ≡ 0)
     unfolding laterFault
-    size-or-start = else-clear _ (startOf (numbersIn packet) heap blocks regs) .0 z
+    sizes-and-start = else-clear _ (startOf (numbersIn packet) heap blocks regs) .0 z
 
     -- the run
     run-is : ranOf (numbersIn packet) heap regs budget
         ≡ outcomeAt (listing.ranOf (packetListing packet) regs heap budget) (acted (codeFor (numbersIn packet)) budget (machineAt regs 0 RUNNING heap))
     unfolding codeFor outcomeFrom
     run-is =
-        let fit = sizes-pass _ (length code) _ budget (size-or-start .0) in
+        let fit = sizes-pass _ (length code) _ budget (sizes-and-start .0) in
         listing.run-is-steps belowOf joinOf (packetListing packet) (accepted-ranges packet n e) (accepted-typed packet n e) heap regs budget
         (right-means (length heap) (length blocks) true (fit .1) .0) (fit .2)
         ∙ ap (outcomeAt _) (zero-add _)
@@ -74,7 +74,7 @@ module _ (packet code heap blocks regs : List ℕ) (budget : ℕ) where
       start : sound.Start (packetListing packet) (rowsOf blocks) regs heap
       start = record {
         sixteen = sixteen;
-        passing = clear-means (shapesIn (numbersIn packet)) (firstListed (numbersIn packet)) heap (rowsOf blocks) regs (size-or-start .1);
+        passing = clear-means (shapesIn (numbersIn packet)) (firstListed (numbersIn packet)) heap (rowsOf blocks) regs (sizes-and-start .1);
       }
 
       pub never-traps : NoTrap leftBy

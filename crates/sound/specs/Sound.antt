@@ -58,7 +58,7 @@ module _ (O : Order) (l : Listing) (r : Ranges l) (w : WellTyped (O .below) (O .
       never-traps = runs-or-halts (O .below) (O .join) l r w regs heap always-ok n
 
       -- where it has halted: the machine and the run over the items
-      pub halted : ranOf l regs heap n .state .status ≡ HALTED → Halted (O .below) (O .join) l (spotAt 1 regs heap) (ranOf l regs heap n)
+      halted : ranOf l regs heap n .state .status ≡ HALTED → Halted (O .below) (O .join) l (spotAt 1 regs heap) (ranOf l regs heap n)
       halted = halts-at (O .below) (O .join) l r w regs heap always-ok n
 
       -- it stands at a halt item, in the context that its pc tells

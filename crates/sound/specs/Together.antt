@@ -70,21 +70,21 @@ module _ (S : Setting) (o : ℕ) where
           | inl v ↦ rw (k o s₁ s₂ g₁ g₂ a v) (by-one Linked _ _ _ _ _ (on-one-way p₁ Γ₁ (b₁ .way)) (on-one-way p₂ Γ₂ (b₂ .way)))
           | inr h ↦ by-two Linked _ _ _ _ _ _ (on-branches l p₁ p₁ Γ₁ Γ₁ h b₁ b₁) (on-branches l p₁ p₂ Γ₁ Γ₂ h b₁ b₂) (on-branches l p₂ p₁ Γ₂ Γ₁ h b₂ b₁) (on-branches l p₂ p₂ Γ₂ Γ₂ h b₂ b₂)
         ]
-    linked p f (writes rd kind v w x n) =
+    linked p f (writes rd kind l v w x fp fl n) =
         link-one _ _ (retyped S Γ rd kind) refl n
         (record {
           registers = λ r h.
               both-written (Γ .registers) rd _ (w .not-r0) (w .listed) (s₁ .regs) (s₂ .regs) _ _ (omega (arith, w .within, g₁ .sixteen)) (omega (arith, w .within, g₂ .sixteen))
-              (λ y v₁ v₂. Alike S o y y v₁ v₂) r (λ e l₁ l₂. (refl, λ sees. x .known o s₁ s₂ g₁ g₂ a sees)) (λ d. a .registers r h);
+              (λ y v₁ v₂. Alike S o y y v₁ v₂) r (λ e l₁ l₂. (refl, λ sees. x .known o s₁ s₂ g₁ g₂ a (fl o sees))) (λ d. a .registers r h);
           words = a .words;
         })
-    linked p f (stores kind l at v w x fl n) =
+    linked p f (stores kind l la at v w x fp fa n) =
         link-one _ _ Γ refl n
         (elim (sees-or-not S o l) [
           | inl sees ↦ record {
             registers = a .registers;
             words = λ b k m there v.
-                both-stored S Γ s₁ s₂ g₁ g₂ _ _ kind l _ _ (w .word s₁ g₁) (w .word s₂ g₂) (w .known o s₁ s₂ g₁ g₂ a sees) (x .known o s₁ s₂ g₁ g₂ a sees) b (a .words b k m there v);
+                both-stored S Γ s₁ s₂ g₁ g₂ _ _ kind l _ _ (w .word s₁ g₁) (w .word s₂ g₂) (w .known o s₁ s₂ g₁ g₂ a (fa o sees)) (x .known o s₁ s₂ g₁ g₂ a sees) b (a .words b k m there v);
           }
           | inr h ↦ agree-both S o Γ Γ Γ Γ s₁ s₂ _ _ a
               (store-unchanged S o Γ s₁ g₁ (p + 1) kind l _ _ (w .word s₁ g₁) h)
