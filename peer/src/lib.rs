@@ -2,9 +2,9 @@
 //! and the bare machine with their calls on byte buffers, written from 01 alone, and
 //! the proved calls beside them. Read `packet`, `listing`, `checker`, `eraser`,
 //! `start` and `machine` first, then `read_call`, `check_call`, `erase_call`,
-//! `run_call` and `desk_call`; `tests/packet`, `tests/listing`, `tests/run_call` and
-//! `tests/desk` compare the calls, `tests/observer` looks at pairs of desk calls for
-//! what an observer can tell, `bin/bench` times them.
+//! `run_call` and `desk_call`. `compare` compares the calls, and looks at pairs of desk
+//! calls for what an observer can tell; the tests and `bin/long` call it. `bin/bench`
+//! times the calls.
 
 #![deny(unsafe_code)]
 
@@ -13,6 +13,7 @@ pub mod bytes;
 pub mod cases;
 pub mod check_call;
 pub mod checker;
+pub mod compare;
 pub mod desk_call;
 pub mod erase_call;
 pub mod eraser;
