@@ -54,7 +54,7 @@ pub fn rule(c: Held, item: Item, numbers: &[u32], shapes: &[u32; 64], labels: &[
 }
 
 // The context with its pc level raised by a register's.
-fn raised(c: Held, rs: u32) -> Held
+pub fn raised(c: Held, rs: u32) -> Held
     ensures { λ r. ⌜ contextIn r ≡ contextOf (joinOf (c .level) (slotAt (c .registers) rs .level)) (stackIn (c .stack)) (c .registers) ⌝ }
 {
     let stack = c.stack;
@@ -68,7 +68,7 @@ fn raised(c: Held, rs: u32) -> Held
 }
 
 // The context with another kind of a register; its level stays.
-fn changed(c: Held, rd: u32, kind: u8) -> Held
+pub fn changed(c: Held, rd: u32, kind: u8) -> Held
     ensures { λ r. ⌜ contextIn r ≡ contextOf (c .level) (stackIn (c .stack)) (set (c .registers) rd (typed kind (slotAt (c .registers) rd .level))) ⌝ }
 {
     let stack = c.stack;

@@ -4,8 +4,8 @@ use Prim.Native.Nat.{_-_, _≤_}
 use mathlib.Core.Path.{_≡_}
 use lib.ListN.{length}
 use borrow.Author.Needs.{needs}
-use Rattle.sifcheck.proofs.read_packet.Statement.{statement}
-use Rattle.sifcheck.proofs.read_packet.Tie as tie
+use Rattle.intake.proofs.read_packet.Statement.{statement}
+use Rattle.intake.proofs.read_packet.Tie as tie
 
 abbrev Inv-loop : tie.InvT-loop
 Inv-loop buf₀ count₀ buf count = (length buf ≡ length buf₀) × (count ≤ length buf)

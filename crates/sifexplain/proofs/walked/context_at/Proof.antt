@@ -1,0 +1,31 @@
+-- `context_at` is safe and ends: each item leaves room for the largest of those that are left.
+use Prim.Native.Nat.{_+_, _*_, _≤_}
+use Rattle.listing.specs.PlaceLaws.{ITEM-NUMBERS, LISTING-NUMBERS}
+use borrow.Author.Needs.{needs}
+use Rattle.sifexplain.proofs.walked.context_at.Statement.{statement}
+use Rattle.sifexplain.proofs.walked.context_at.Tie as tie
+
+abbrev Inv-loop : tie.InvT-loop
+Inv-loop numbers i held₀ at₀ left₀ held at left = at + ITEM-NUMBERS * left ≤ LISTING-NUMBERS
+
+abbrev μ-loop : tie.MeasureT-loop
+μ-loop numbers i held₀ at₀ left₀ held at left = left
+
+pub context-at-spec : {M : Type 1} → statement M
+context-at-spec =
+    tie.close
+    (tie.spec
+    Inv-loop
+    μ-loop
+    (λ c κs. search needs)
+    (λ c κs. search needs)
+    (λ c. search needs)
+    (λ c κs. search needs)
+    (λ c. search needs)
+    (λ c κs. search needs)
+    (λ c κs. search needs)
+    (λ c κs. search needs)
+    (λ c. search needs)
+    (λ c. search needs)
+    (λ c. search needs)
+    (λ c. search needs))
