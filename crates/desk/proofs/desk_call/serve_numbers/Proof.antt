@@ -4,6 +4,9 @@ use borrow.Author.Needs.{needs}
 use Rattle.desk.proofs.desk_call.serve_numbers.Statement.{statement}
 use Rattle.desk.proofs.desk_call.serve_numbers.Tie as tie
 
+refused-requires : tie.Need-refused-requires
+refused-requires c κs = search needs
+
 pub serve-numbers-spec : {M : Type 1} → statement M
 serve-numbers-spec =
     tie.close
@@ -13,6 +16,6 @@ serve-numbers-spec =
     (λ c. search needs)
     (λ c. search needs)
     (λ c. search (servings, needs))
-    (λ c κs. search needs)
+    refused-requires
     (λ c. search needs)
     (λ c. search (servings, needs)))
