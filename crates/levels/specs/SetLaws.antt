@@ -1,9 +1,10 @@
 -- Sets of compartments are an order with joins.
 use Prim.Native.Nat.{ℕ, _<_, _^_}
-use mathlib.Core.Path.{_≡_, refl, sym, ap, _∙_}
-use mathlib.Core.Bool.{true, false}
+use native.Mathlib.Nat.{mod-eq-of-lt}
+use mathlib.Core.Path.{_≡_, sym, ap, _∙_}
+use mathlib.Core.Bool.{true}
 use lib.Dec.{lit<}
-use lib.Bits.{bitAnd, bitOr, and-self, and-comm, or-comm, and-zero-l, or-lt}
+use lib.Bits.{bitAnd, bitOr, and-self, and-comm, or-comm, and-zero-l, and-mask, or-lt}
 use borrow.Author.Tests.{eq-eqb, eqb-true}
 use Rattle.levels.specs.Order.{Order}
 use Rattle.levels.specs.Sets.{belowOf, joinOf}
@@ -36,6 +37,6 @@ sets =
       least-below = λ a h. eq-eqb _ 0 (and-zero-l a);
     }
 
--- 01's bench piece K9
-pub k9 : (belowOf 3 7 ≡ true) × (belowOf 3 5 ≡ false) × (joinOf 3 5 ≡ 7)
-k9 = (refl, refl, refl)
+-- the set of all compartments is the greatest
+pub greatest : (a : ℕ) → a < 2 ^ COMPARTMENTS → belowOf a 255 ≡ true
+greatest a h = eq-eqb _ a (and-mask a COMPARTMENTS ∙ mod-eq-of-lt h)
