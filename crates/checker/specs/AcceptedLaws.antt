@@ -11,8 +11,8 @@ use Rattle.listing.specs.declared.items.Item.{Item}
 use Rattle.listing.specs.declared.items.Item.the-variants.{Halt, Jmp, Bnz, Load, Store, Compute, ComputeImmediate, Cpush, Cjmp, Label}
 use Rattle.listing.specs.Limits.{LABELS}
 use Rattle.listing.specs.Listing.{Field, LabelContext, Listing, Each, ItemRange, Ranges}
+use Rattle.rules.specs.Context.{targetOf}
 use Rattle.checker.specs.declared.blocks.Block.the-variants.{Start}
-use Rattle.checker.specs.Context.{targetOf}
 use Rattle.checker.specs.Walk.{accepted, labelIn, blockAfter, walkOf}
 use Rattle.checker.specs.Judgement.{due, Typed, T-Eof, T-Due, WellTyped}
 use Rattle.checker.specs.Refusal.{Holds, State, start, behind, reached, rowAt, AllHold}

@@ -13,18 +13,18 @@ use Rattle.listing.specs.declared.reading.Taken.the-variants as taken
 use Rattle.listing.specs.declared.items.Item.{Item}
 use Rattle.listing.specs.Limits.{BYTES, LABELS, ITEMS}
 use Rattle.listing.specs.Listing.{Field, LabelContext, Listing}
-use Rattle.listing.specs.Packet.{Reading, readingOf, packetOf, numbersIn, takenOf}
+use Rattle.listing.specs.Packet.{Reading, readingOf, packetOf, numbersIn}
 use Rattle.listing.specs.Parts.{numberAt, countAt, itemAt, behindItem, itemsPlace, shapesIn, labelsIn, itemsIn, listingIn}
 use Rattle.listing.specs.PartLaws.{parts-length}
 use Rattle.listing.specs.PlaceLaws.{count-held}
 use Rattle.listing.specs.TakenLaws.{read-taken, read-count, read-place, read-numbers}
+use Rattle.rules.specs.Context.{Context, contextOf, noRegisters}
+use Rattle.rules.specs.Rules.{afterOf}
 use Rattle.checker.specs.declared.blocks.Block.{Block}
 use Rattle.checker.specs.declared.blocks.Block.the-variants.{Start}
 use Rattle.checker.specs.declared.walk.Verdict.{Verdict}
 use Rattle.checker.specs.declared.packets.Checked.{Checked}
 use Rattle.checker.specs.declared.packets.Checked.the-variants as checked
-use Rattle.checker.specs.Context.{Context, contextOf, noRegisters}
-use Rattle.checker.specs.Rules.{afterOf}
 use Rattle.checker.specs.Walk.{verdictOf, accepted, blockAfter, placedAfter, orElse, walkFrom, walkOf}
 use Rattle.checker.specs.Check.{verdictIn, judgedOf, checkedBy, Checking, checkingOf, checkIn, checkOf}
 

@@ -1,17 +1,17 @@
 -- Document 000, figures 2 and 3, as 01 sets them out: when a listing is well typed. One constructor for each rule, in its name, over any order of levels: ⊑ is its test and ⊔ its join. Σ(L) is `targetOf labels L`, and a context Γ ∥ Λ with its pc level is a `Context`.
-use Prim.Native.Nat.{ℕ, zero, suc, _+_, _<_}
+use Prim.Native.Nat.{ℕ, _+_, _<_}
 use mathlib.Core.Path.{_≡_}
 use mathlib.Core.Bool.{Bool, true}
 use mathlib.Core.List.{List, [], _∷_}
-use lib.ListN.{length, getD, set}
+use lib.ListN.{length, set}
 use lib.Dec.{eqb}
 use Rattle.choice.specs.Pick.{pick}
 use Rattle.listing.specs.declared.items.Item.{Item}
 use Rattle.listing.specs.declared.items.Item.the-variants.{Halt, Jmp, Bnz, Load, Store, Compute, ComputeImmediate, Cpush, Cjmp, Label}
 use Rattle.listing.specs.Limits.{STACK}
 use Rattle.listing.specs.Listing.{Field, Register, LabelContext, Listing, Each}
-use Rattle.checker.specs.declared.contexts.Slot.{Slot}
-use Rattle.checker.specs.Context.{INTEGER, typed, Context, contextOf, slotAt, slotOf, entered, targetOf, fieldsOf, fieldOf}
+use Rattle.rules.specs.declared.contexts.Slot.{Slot}
+use Rattle.rules.specs.Context.{INTEGER, typed, Context, contextOf, slotAt, slotOf, entered, targetOf, fieldsOf, fieldOf}
 
 -- Γ′ ⊆ Γ: each register that is listed there has its kind and level here
 abbrev pub Lists : List Slot → List Register → Type 0

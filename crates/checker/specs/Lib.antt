@@ -1,15 +1,10 @@
--- What the checker accepts and refuses. To believe it, read Numbers, Context, Rules and Walk, and for the theorems Judgement, Refusal and Theorems; the rest are laws.
-pub mod Numbers  -- refusals, each named once
-pub mod Context  -- the current context
-pub mod Rules  -- for each item its premises in the table's order, and the context behind it
+-- What the checker accepts and refuses, item by item as crate rules says. To believe it, read Walk and Check, and for the theorems Judgement, Refusal and Theorems; the rest are laws.
 pub mod Walk  -- the walk down the items
 pub mod Judgement  -- when a listing is well typed, by document 000's rules
-pub mod Held  -- how the code holds a context
 pub mod Check  -- the checker on packets
 pub mod CheckLaws  -- for the proofs of its code, and what it leaves in the buffer
-pub mod HeldLaws  -- for the proofs of its code
 pub mod Tables  -- where the parts of a listing begin
-pub mod RowLaws  -- a row of premises, premise by premise, for the proofs of the code of the rules
+pub mod RowLaws  -- a rule and the context behind it by the kind of an item, for the proofs of the code
 pub mod Writes  -- which register an item writes
 pub mod WalkLaws  -- for the proofs of the code of the walk
 pub mod Refusal  -- what a refusal says: the first place at which a premise fails, and the table's order there

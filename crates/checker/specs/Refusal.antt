@@ -9,11 +9,11 @@ use Rattle.choice.specs.Pick.{pick}
 use Rattle.listing.specs.declared.items.Item.{Item}
 use Rattle.listing.specs.Limits.{LABELS}
 use Rattle.listing.specs.Listing.{Field, LabelContext, EachAfter, Each}
+use Rattle.rules.specs.Numbers.{NO-LABEL, PLACED-TWICE, FIRST-STACK, WRITES-R0, NOT-LISTED, WRONG-SORT, NO-FIELD, NOT-THE-FIELD, STACK-RULE, PUSH-PAST, NOT-MET, LEVEL-RULE, OPEN-END, NEVER-PLACED}
+use Rattle.rules.specs.Context.{Context, contextOf, noRegisters}
+use Rattle.rules.specs.Rules.{Premise, _unless_, afterOf}
 use Rattle.checker.specs.declared.blocks.Block.{Block}
 use Rattle.checker.specs.declared.blocks.Block.the-variants.{Start}
-use Rattle.checker.specs.Numbers.{NO-LABEL, PLACED-TWICE, FIRST-STACK, WRITES-R0, NOT-LISTED, WRONG-SORT, NO-FIELD, NOT-THE-FIELD, STACK-RULE, PUSH-PAST, NOT-MET, LEVEL-RULE, OPEN-END, NEVER-PLACED}
-use Rattle.checker.specs.Context.{Context, contextOf, noRegisters}
-use Rattle.checker.specs.Rules.{Premise, _unless_, afterOf}
 use Rattle.checker.specs.Walk.{blockAfter, placedAfter, premisesOf, endRow}
 
 -- the order of 01's table, the end's numbers last

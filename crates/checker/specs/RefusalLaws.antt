@@ -12,11 +12,11 @@ use Rattle.choice.specs.Pick.{pick, is-true, is-equal, both, either}
 use Rattle.listing.specs.declared.items.Item.{Item}
 use Rattle.listing.specs.declared.items.Item.the-variants.{Halt, Jmp, Bnz, Load, Store, Compute, ComputeImmediate, Cpush, Cjmp, Label}
 use Rattle.listing.specs.Listing.{Field, LabelContext}
+use Rattle.rules.specs.Context.{Context, targetOf}
+use Rattle.rules.specs.Rules.{Premise, _unless_, firstFailing, rowOf}
 use Rattle.checker.specs.declared.blocks.Block.{Block}
 use Rattle.checker.specs.declared.blocks.Block.the-variants.{Start, Closed, Open}
 use Rattle.checker.specs.declared.walk.Verdict.{Verdict}
-use Rattle.checker.specs.Context.{Context, targetOf}
-use Rattle.checker.specs.Rules.{Premise, _unless_, firstFailing, rowOf}
 use Rattle.checker.specs.Walk.{verdictOf, accepted, isLabel, labelIn, freeOf, dueRow, enterRow, labelRow, orElse, premisesOf, walkFrom}
 use Rattle.checker.specs.Refusal.{tableOrder, placeIn, rank, InOrder, Holds, FirstFailure, NoneBelow, State, behind, reached, rowAt, AllHold, FirstRefusal}
 

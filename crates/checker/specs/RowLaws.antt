@@ -2,21 +2,20 @@
 use Prim.Native.Nat.{ℕ, _<_}
 use native.Mathlib.Omega.{arith}
 use mathlib.Core.Path.{_≡_, refl, sym, ap, _∙_}
-use mathlib.Core.Bool.{Bool, true, false}
 use mathlib.Core.List.{List, [], _∷_}
 use mathlib.Core.Logic.{inl, inr}
 use lib.ListN.{length, getD, set}
 use lib.Dec.{ltb}
 use borrow.Author.Tests.{ltb-true}
-use Rattle.choice.specs.Pick.{pick, either}
+use Rattle.choice.specs.Pick.{either}
 use Rattle.levels.specs.Sets.{belowOf, joinOf}
 use Rattle.listing.specs.declared.items.Item.{Item}
 use Rattle.listing.specs.declared.items.Item.the-variants.{Halt, Jmp, Bnz, Load, Store, Compute, ComputeImmediate, Cpush, Cjmp, Label}
 use Rattle.listing.specs.Limits.{STACK}
 use Rattle.listing.specs.Listing.{Field, LabelContext}
-use Rattle.checker.specs.declared.contexts.Slot.{Slot}
-use Rattle.checker.specs.Context.{INTEGER, typed, Context, contextOf, slotAt, entered, nowhere, fieldOf}
-use Rattle.checker.specs.Rules.{Premise, firstFailing, jumpRow, haltRow, bnzRow, loadRow, storeRow, computeRow, computeImmediateRow, cpushRow, cjmpRow, rowOf, afterOf}
+use Rattle.rules.specs.declared.contexts.Slot.{Slot}
+use Rattle.rules.specs.Context.{INTEGER, typed, Context, contextOf, slotAt, entered, nowhere, fieldOf}
+use Rattle.rules.specs.Rules.{firstFailing, jumpRow, haltRow, bnzRow, loadRow, storeRow, computeRow, computeImmediateRow, cpushRow, cjmpRow, rowOf, afterOf}
 
 module _ (shapes : List (List Field)) (labels : List LabelContext) (Γ : Context) (item : Item) where
   abbrev Row : Item → ℕ

@@ -10,8 +10,8 @@ use Rattle.listing.specs.Limits.{SHAPES, FIELDS, LABELS, STACK, REGISTERS, TOP-
 use Rattle.listing.specs.Listing.{Field}
 use Rattle.listing.specs.Parts.{partsFrom, behind, numberAt, countOf, countAt, fieldAt, shapeAt, behindShape, registerAt, registersPlace, labelAt, behindLabel, labelsPlace, shapesIn, labelsIn}
 use Rattle.listing.specs.PartLaws.{parts-none, parts-length, part-stands, no-part, behind-equal}
-use Rattle.listing.specs.PlaceLaws.{count-held}
-use Rattle.checker.specs.Context.{nowhere, noField, fieldsOf}
+use Rattle.rules.specs.Context.{nowhere, noField, fieldsOf}
+use Rattle.rules.specs.HeldLaws.{count-within}
 
 -- a table with the places of n parts put in from k on
 unfoldable pub tabledFrom : (ℕ → ℕ) → ℕ → ℕ → ℕ → List ℕ → List ℕ
@@ -101,17 +101,14 @@ no-label ns =
           ∙ parts-none (registerAt ns) (λ p. p + 3) (registersPlace ns (length ns) + 1) 0 (omega arith)) i;
     }
 
-count-few : (limit n : ℕ) → countOf limit n ≤ limit
-count-few limit n = count-held limit n (countOf limit n) refl
-
 label-stands : (ns : List ℕ) (l : ℕ) → labelAt ns (getD (labelTable ns) l (length ns)) ≡ getD (labelsIn ns) l nowhere
 unfolding labelTable labelsIn
 label-stands ns l =
-    table-reads (labelAt ns) (behindLabel ns) nowhere LABELS (length ns) (countAt LABELS ns (labelsPlace ns)) (labelsPlace ns + 1) l (count-few LABELS _) (no-label ns)
+    table-reads (labelAt ns) (behindLabel ns) nowhere LABELS (length ns) (countAt LABELS ns (labelsPlace ns)) (labelsPlace ns + 1) l (count-within LABELS _) (no-label ns)
 
 shape-stands : (ns : List ℕ) (k : ℕ) → shapeAt ns (getD (shapeTable ns) k (length ns)) ≡ getD (shapesIn ns) k []
 unfolding shapeTable shapesIn
-shape-stands ns k = table-reads (shapeAt ns) (behindShape ns) [] SHAPES (length ns) (countAt SHAPES ns 1) 2 k (count-few SHAPES _) (no-shape ns)
+shape-stands ns k = table-reads (shapeAt ns) (behindShape ns) [] SHAPES (length ns) (countAt SHAPES ns 1) 2 k (count-within SHAPES _) (no-shape ns)
 
 tabled-length : (next : ℕ → ℕ) (at k n : ℕ) (table : List ℕ) → length (tabledFrom next at k n table) ≡ length table
 unfolding tabledFrom

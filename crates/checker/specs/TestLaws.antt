@@ -10,8 +10,8 @@ use lib.Dec.{ltb, eqb}
 use borrow.Author.Tests.{eq-eqb, ltb-true, eqb-true}
 use Rattle.choice.specs.Pick.{pick}
 use Rattle.listing.specs.Listing.{Field, Register}
-use Rattle.checker.specs.declared.contexts.Slot.{Slot}
-use Rattle.checker.specs.Context.{INTEGER, typed, slotAt, both, exactly, meets, metOf, sameOf, fieldsOf, fieldOf}
+use Rattle.rules.specs.declared.contexts.Slot.{Slot}
+use Rattle.rules.specs.Context.{INTEGER, typed, slotAt, both, exactly, meets, metOf, sameOf, fieldsOf, fieldOf}
 use Rattle.checker.specs.Judgement.{Lists, IsField}
 
 -- both of two tests hold

@@ -11,11 +11,11 @@ use Rattle.listing.specs.declared.items.Item.{Item}
 use Rattle.listing.specs.declared.items.Item.the-variants.{Halt, Jmp, Bnz, Load, Store, Compute, ComputeImmediate, Cpush, Cjmp, Label}
 use Rattle.listing.specs.Limits.{STACK}
 use Rattle.listing.specs.Listing.{Field, LabelContext}
-use Rattle.checker.specs.declared.contexts.Slot.{Slot}
+use Rattle.rules.specs.declared.contexts.Slot.{Slot}
+use Rattle.rules.specs.Context.{INTEGER, typed, Context, slotAt, entered, fieldOf, targetOf}
+use Rattle.rules.specs.Rules.{Premise, jumpRow, rowOf, afterOf}
 use Rattle.checker.specs.declared.blocks.Block.{Block}
 use Rattle.checker.specs.declared.blocks.Block.the-variants.{Start, Closed, Open}
-use Rattle.checker.specs.Context.{INTEGER, typed, Context, slotAt, entered, fieldOf, targetOf}
-use Rattle.checker.specs.Rules.{Premise, jumpRow, rowOf, afterOf}
 use Rattle.checker.specs.Walk.{isLabel, labelIn, freeOf, blockAfter, dueRow, isOpen, enterRow, labelRow, premisesOf}
 use Rattle.checker.specs.Judgement.{Now, due, inside, ST-RegBank, Typed, T-Eof, T-Due, T-Label, T-Halt, T-Jmp, T-CondBrnch, T-Arith, T-Arithi, T-Load, T-Store, T-Cpush, T-Cjmp}
 use Rattle.checker.specs.Refusal.{Holds}

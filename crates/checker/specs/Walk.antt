@@ -9,12 +9,12 @@ use Rattle.listing.specs.declared.items.Item.{Item}
 use Rattle.listing.specs.declared.items.Item.the-variants.{Halt, Jmp, Bnz, Load, Store, Compute, ComputeImmediate, Cpush, Cjmp, Label}
 use Rattle.listing.specs.Limits.{LABELS}
 use Rattle.listing.specs.Listing.{Field, LabelContext, Listing}
+use Rattle.rules.specs.Numbers.{NO-LABEL, PLACED-TWICE, FIRST-STACK, OPEN-END, NEVER-PLACED}
+use Rattle.rules.specs.Context.{Context, contextOf, noRegisters, targetOf}
+use Rattle.rules.specs.Rules.{Premise, _unless_, firstFailing, jumpRow, rowOf, afterOf}
 use Rattle.checker.specs.declared.blocks.Block.{Block}
 use Rattle.checker.specs.declared.blocks.Block.the-variants.{Start, Closed, Open}
 use Rattle.checker.specs.declared.walk.Verdict.{Verdict}
-use Rattle.checker.specs.Numbers.{NO-LABEL, PLACED-TWICE, FIRST-STACK, OPEN-END, NEVER-PLACED}
-use Rattle.checker.specs.Context.{Context, contextOf, noRegisters, targetOf}
-use Rattle.checker.specs.Rules.{Premise, _unless_, firstFailing, jumpRow, rowOf, afterOf}
 
 -- the number and place of a refusal; 0 and 0 is accepted
 abbrev pub verdictOf : ℕ → ℕ → Verdict

@@ -1,11 +1,11 @@
 -- Laws for the code of the walk: one for each way through it. `placings` holds those for the placed labels, `turns` those for the loop over the items.
-use Prim.Native.Nat.{ℕ, zero, suc, _+_, _-_, _*_, _^_, _<_, _≤_}
+use Prim.Native.Nat.{ℕ, suc, _+_, _-_, _*_, _^_, _<_, _≤_}
 use native.Mathlib.Omega.{arith}
 use mathlib.Core.Path.{_≡_, refl, sym, ap, _∙_}
 use mathlib.Core.Bool.{Bool, true, false}
 use mathlib.Core.List.{List, [], _∷_}
 use lib.ListN.{length, getD, set, replicate, List·getD-eq-default}
-use lib.Dec.{ltb, eqb}
+use lib.Dec.{eqb}
 use Rattle.choice.specs.Pick.{pick, is-true, is-false, is-equal, not-equal, if-equal, if-less}
 use Rattle.levels.specs.Sets.{belowOf, joinOf}
 use Rattle.listing.specs.declared.items.Item.{Item}
@@ -15,15 +15,15 @@ use Rattle.listing.specs.Listing.{Field, LabelContext}
 use Rattle.listing.specs.Parts.{partsFrom, numberAt, countAt, itemOf, itemAt, behindItem, labelAt, behindLabel, labelsPlace, itemsPlace, shapesIn, labelsIn, itemsIn, listingIn}
 use Rattle.listing.specs.PartLaws.{parts-more, parts-none, parts-length}
 use Rattle.listing.specs.PlaceLaws.{ITEM-NUMBERS, TOP-ITEMS-PLACE}
-use Rattle.checker.specs.declared.contexts.Slot.{Slot}
+use Rattle.rules.specs.declared.contexts.Slot.{Slot}
+use Rattle.rules.specs.Numbers.{NO-LABEL, PLACED-TWICE, FIRST-STACK, OPEN-END, NEVER-PLACED}
+use Rattle.rules.specs.Context.{typed, Context, contextOf, noRegisters, entered, nowhere}
+use Rattle.rules.specs.Rules.{Premise, firstFailing, jumpRow, rowOf, afterOf}
 use Rattle.checker.specs.declared.items.Write.{Write}
 use Rattle.checker.specs.declared.blocks.Block.{Block}
 use Rattle.checker.specs.declared.blocks.Block.the-variants.{Start, Closed, Open}
 use Rattle.checker.specs.declared.walk.Verdict.{Verdict}
-use Rattle.checker.specs.Numbers.{NO-LABEL, PLACED-TWICE, FIRST-STACK, OPEN-END, NEVER-PLACED}
-use Rattle.checker.specs.Context.{typed, Context, contextOf, slotAt, noRegisters, entered, nowhere}
 use Rattle.checker.specs.Writes.{writeOf, written, writes}
-use Rattle.checker.specs.Rules.{Premise, firstFailing, jumpRow, rowOf, afterOf}
 use Rattle.checker.specs.Walk.{verdictOf, accepted, isLabel, labelIn, freeOf, placedAfter, blockAfter, dueRow, allFrom, isOpen, orElse, enterRow, labelRow, premisesOf, endRow, walkFrom, walkOf}
 
 -- the placed labels

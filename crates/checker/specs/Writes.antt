@@ -8,11 +8,11 @@ use lib.ListN.{set}
 use Rattle.listing.specs.declared.items.Item.{Item}
 use Rattle.listing.specs.declared.items.Item.the-variants.{Halt, Jmp, Bnz, Load, Store, Compute, ComputeImmediate, Cpush, Cjmp, Label}
 use Rattle.listing.specs.Listing.{Field, LabelContext}
-use Rattle.checker.specs.declared.contexts.Slot.{Slot}
+use Rattle.rules.specs.declared.contexts.Slot.{Slot}
+use Rattle.rules.specs.Context.{INTEGER, typed, Context, contextOf, slotAt, fieldOf}
+use Rattle.rules.specs.Rules.{afterOf}
 use Rattle.checker.specs.declared.blocks.Block.the-variants.{Open}
 use Rattle.checker.specs.declared.items.Write.{Write}
-use Rattle.checker.specs.Context.{INTEGER, typed, Context, contextOf, slotAt, fieldOf}
-use Rattle.checker.specs.Rules.{afterOf}
 use Rattle.checker.specs.Walk.{blockAfter}
 
 abbrev pub writeKind : List Slot → ℕ → ℕ → Write

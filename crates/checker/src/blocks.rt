@@ -1,13 +1,13 @@
 // Blocks: where the walk is, and the first refusal of a label or of another item there.
-use crate::contexts::Held;
-use crate::contexts::label_depth;
 use crate::items::rule;
-use crate::numbers::FIRST_STACK;
-use crate::numbers::NO_LABEL;
-use crate::numbers::PLACED_TWICE;
-use crate::rules::jump;
-use crate::rules::unless;
 use listing::Item;
+use rules::Held;
+use rules::jump;
+use rules::label_depth;
+use rules::numbers::FIRST_STACK;
+use rules::numbers::NO_LABEL;
+use rules::numbers::PLACED_TWICE;
+use rules::unless;
 ghost use mathlib.Core.Path.{_≡_};
 ghost use Prim.Native.Nat.{_≤_};
 ghost use lib.ListN.{length};
@@ -16,9 +16,9 @@ ghost use Rattle.choice.specs.Pick.{pick};
 ghost use Rattle.levels.specs.Sets.{belowOf, joinOf};
 ghost use Rattle.listing.specs.Limits.{BYTES};
 ghost use Rattle.listing.specs.Parts.{shapesIn, labelsIn, labelAt};
-ghost use Rattle.checker.specs.Rules.{firstFailing, rowOf};
+ghost use Rattle.rules.specs.Rules.{firstFailing, rowOf};
+ghost use Rattle.rules.specs.Held.{contextIn};
 ghost use Rattle.checker.specs.Walk.{isLabel, blockAfter, dueRow, labelRow, isOpen};
-ghost use Rattle.checker.specs.Held.{contextIn};
 ghost use Rattle.checker.specs.Tables.{shapeTable, labelTable};
 
 // Where the walk is: before the first item, behind an item that closed its block, or in a block.

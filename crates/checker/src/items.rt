@@ -1,24 +1,23 @@
 // One item in an open block: its first refusal, and the context behind it.
-use crate::contexts::Held;
-use crate::contexts::Slot;
-use crate::contexts::enter;
-use crate::contexts::push;
-use crate::contexts::slot_at;
-use crate::contexts::with_slot;
-use crate::rules::bnz;
-use crate::rules::cjmp;
-use crate::rules::compute;
-use crate::rules::compute_immediate;
-use crate::rules::cpush;
-use crate::rules::halt;
-use crate::rules::jump;
-use crate::rules::load;
-use crate::rules::store;
-use crate::tables::field_kind;
+use crate::fields::load;
+use crate::fields::loaded_kind;
+use crate::fields::store;
 use crate::tables::label_place;
-use crate::tables::shape_place;
 use levels::join;
 use listing::Item;
+use rules::Held;
+use rules::Slot;
+use rules::Stack;
+use rules::bnz;
+use rules::cjmp;
+use rules::compute;
+use rules::compute_immediate;
+use rules::cpush;
+use rules::enter;
+use rules::halt;
+use rules::jump;
+use rules::slot_at;
+use rules::with_slot;
 ghost use mathlib.Core.Path.{_≡_};
 ghost use Prim.Native.Nat.{_≤_, _<_};
 ghost use mathlib.Core.List.{_∷_};
@@ -26,9 +25,9 @@ ghost use lib.ListN.{length, set};
 ghost use Rattle.levels.specs.Sets.{belowOf, joinOf};
 ghost use Rattle.listing.specs.Limits.{BYTES, STACK};
 ghost use Rattle.listing.specs.Parts.{shapesIn, labelsIn};
-ghost use Rattle.checker.specs.Context.{INTEGER, typed, contextOf, slotAt, fieldOf};
-ghost use Rattle.checker.specs.Rules.{firstFailing, rowOf, afterOf};
-ghost use Rattle.checker.specs.Held.{stackIn, contextIn};
+ghost use Rattle.rules.specs.Context.{typed, contextOf, slotAt};
+ghost use Rattle.rules.specs.Rules.{firstFailing, rowOf, afterOf};
+ghost use Rattle.rules.specs.Held.{stackIn, contextIn};
 ghost use Rattle.checker.specs.Writes.{writeKind, noWrite, writeOf};
 ghost use Rattle.checker.specs.Tables.{shapeTable, labelTable};
 
@@ -90,17 +89,6 @@ pub fn changed(c: Held, rd: u32, kind: u8) -> Held
     }
 }
 
-// The kind of the field that rs points to.
-fn loaded_kind(c: Held, rs: u32, field: u32, numbers: &[u32], shapes: &[u32; 64]) -> u8
-    requires { ⌜ length (now numbers) ≤ BYTES ⌝ }
-    requires { ⌜ now shapes ≡ shapeTable (now numbers) ⌝ }
-    ensures { λ r. ⌜ r ≡ fieldOf (shapesIn (now (numbers .entry))) (slotAt (c .registers) rs .kind) field .kind ⌝ }
-{
-    let registers = c.registers;
-    let s = slot_at(registers, rs);
-    field_kind(numbers, shape_place(numbers, shapes, s.kind), field)
-}
-
 // A register that an item writes, 16 for none, and what is then said of it.
 pub struct Write {
     pub at: u32,
@@ -149,6 +137,24 @@ pub fn write_of(c: Held, item: Item, numbers: &[u32], shapes: &[u32; 64]) -> Wri
         Item::Cjmp(_) => no_write(),
         Item::Label(_) => no_write(),
     }
+}
+
+// A stack with a label on top.
+fn push(s: Stack, l: u32) -> Stack
+    requires { ⌜ length (stackIn s) < STACK ⌝ }
+    ensures { λ r. ⌜ stackIn r ≡ l ∷ stackIn s ⌝ }
+{
+    let top = s.top;
+    let mut cells = s.cells;
+    if top < 16 {
+        cells[top - 1] = l;
+        return Stack {
+            top: top - 1,
+            cells,
+        };
+    }
+    cells[15] = l;
+    Stack { top: 15, cells }
 }
 
 // The context with a label on top of its stack.

@@ -15,7 +15,7 @@ ghost use lib.ListN.{length, getD};
 ghost use Rattle.listing.specs.Limits.{BYTES};
 ghost use Rattle.listing.specs.Parts.{shapeAt, labelAt, labelsPlace, labelsIn, shapesIn};
 ghost use Rattle.listing.specs.PlaceLaws.{TOP-LABELS-PLACE};
-ghost use Rattle.checker.specs.Context.{nowhere, noField, fieldsOf};
+ghost use Rattle.rules.specs.Context.{nowhere, noField, fieldsOf};
 ghost use Rattle.checker.specs.Tables.{shapeTable, labelTable};
 
 // The places of the shapes.

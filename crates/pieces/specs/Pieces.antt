@@ -20,10 +20,10 @@ use Rattle.listing.specs.Grammar.{withinOf, belowOf, shapesFrom, fieldsFrom, la
 use Rattle.listing.specs.Packet.{dueThen, foundThen, numbersThen, numbersFrom, numbersIn, takenThen, takenFrom, takenOf, endOf}
 use Rattle.listing.specs.Parts.{partsFrom, behind, countOf, itemOf, sizeOf, labelsPlace, itemsPlace, shapesIn, labelsIn, itemsIn}
 use Rattle.listing.specs.Bytes.{bytesOf, packetBytes}
+use Rattle.rules.specs.Context.{noRegisters, withListed, metOf, sameOf}
+use Rattle.rules.specs.Rules.{firstFailing, rowOf, afterOf}
 use Rattle.checker.specs.declared.packets.Checked.{Checked}
 use Rattle.checker.specs.declared.packets.Checked.the-variants.{Accepted, Refused}
-use Rattle.checker.specs.Context.{noRegisters, withListed, metOf, sameOf}
-use Rattle.checker.specs.Rules.{firstFailing, rowOf, afterOf}
 use Rattle.checker.specs.Walk.{isLabel, labelIn, blockAfter, dueRow, allFrom, isOpen, orElse, enterRow, premisesOf, walkFrom, walkOf}
 use Rattle.checker.specs.Check.{judgedOf, checkedBy, checkOf}
 use Rattle.eraser.specs.Erase.{keptIn, countBehind, passFrom, entered, noAddresses, addressesOf, wordFor, codeOf}

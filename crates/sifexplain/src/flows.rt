@@ -11,12 +11,12 @@ use crate::places::pointed_place;
 use crate::registers::slot_in;
 use crate::words::say_label;
 use crate::words::say_register;
-use checker::Held;
 use checker::field_level;
 use levels::at_or_below;
 use levels::join;
 use listing::Item;
 use listing::number_at;
+use rules::Held;
 
 // Where something shows: in a register; in the field of a shape, written or reached through a pointer; in
 // that a label is reached or pushed. A field goes by its offset and the pointer's kind.

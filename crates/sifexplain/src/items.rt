@@ -20,22 +20,22 @@ use crate::stacks::say_first_stack;
 use crate::stacks::say_push_past;
 use crate::stacks::say_stack_rule;
 use crate::walked::context_at;
-use checker::Held;
-use checker::numbers::FIRST_STACK;
-use checker::numbers::LEVEL_RULE;
-use checker::numbers::NEVER_PLACED;
-use checker::numbers::NO_FIELD;
-use checker::numbers::NO_LABEL;
-use checker::numbers::NOT_LISTED;
-use checker::numbers::NOT_MET;
-use checker::numbers::NOT_THE_FIELD;
-use checker::numbers::OPEN_END;
-use checker::numbers::PLACED_TWICE;
-use checker::numbers::PUSH_PAST;
-use checker::numbers::STACK_RULE;
-use checker::numbers::WRITES_R0;
-use checker::numbers::WRONG_SORT;
 use listing::Item;
+use rules::Held;
+use rules::numbers::FIRST_STACK;
+use rules::numbers::LEVEL_RULE;
+use rules::numbers::NEVER_PLACED;
+use rules::numbers::NO_FIELD;
+use rules::numbers::NO_LABEL;
+use rules::numbers::NOT_LISTED;
+use rules::numbers::NOT_MET;
+use rules::numbers::NOT_THE_FIELD;
+use rules::numbers::OPEN_END;
+use rules::numbers::PLACED_TWICE;
+use rules::numbers::PUSH_PAST;
+use rules::numbers::STACK_RULE;
+use rules::numbers::WRITES_R0;
+use rules::numbers::WRONG_SORT;
 
 // The label that an item names, 0 where it names none.
 fn label_in(item: Item) -> u32 {

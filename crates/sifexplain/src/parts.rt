@@ -4,12 +4,12 @@ use crate::out::say_end;
 use crate::out::say_number;
 use crate::words::say_label;
 use crate::words::say_register;
-use checker::Held;
-use checker::Slot;
-use checker::Stack;
-use checker::depth;
-use checker::slot_at;
 use levels::at_or_below;
+use rules::Held;
+use rules::Slot;
+use rules::Stack;
+use rules::depth;
+use rules::slot_at;
 
 pub(crate) fn say_level(level: u32) {
     say(b"level ");

@@ -1,25 +1,25 @@
 // The rule behind each refusal, in a sentence for someone who has not read the documents.
 use crate::out::say;
-use checker::numbers::FIRST_STACK;
-use checker::numbers::LEVEL_RULE;
-use checker::numbers::NEVER_PLACED;
-use checker::numbers::NO_FIELD;
-use checker::numbers::NO_LABEL;
-use checker::numbers::NOT_LISTED;
-use checker::numbers::NOT_MET;
-use checker::numbers::NOT_THE_FIELD;
-use checker::numbers::OPEN_END;
-use checker::numbers::PLACED_TWICE;
-use checker::numbers::PUSH_PAST;
-use checker::numbers::STACK_RULE;
-use checker::numbers::WRITES_R0;
-use checker::numbers::WRONG_SORT;
 use listing::limits::ENDED;
 use listing::limits::LEFT_OVER;
 use listing::limits::MALFORMED;
 use listing::limits::OUT_OF_RANGE;
 use listing::limits::TOO_LONG;
 use listing::limits::WRONG_EDITION;
+use rules::numbers::FIRST_STACK;
+use rules::numbers::LEVEL_RULE;
+use rules::numbers::NEVER_PLACED;
+use rules::numbers::NO_FIELD;
+use rules::numbers::NO_LABEL;
+use rules::numbers::NOT_LISTED;
+use rules::numbers::NOT_MET;
+use rules::numbers::NOT_THE_FIELD;
+use rules::numbers::OPEN_END;
+use rules::numbers::PLACED_TWICE;
+use rules::numbers::PUSH_PAST;
+use rules::numbers::STACK_RULE;
+use rules::numbers::WRITES_R0;
+use rules::numbers::WRONG_SORT;
 
 fn say_text(number: u8) {
     match number {

@@ -10,15 +10,15 @@ use crate::places::label_place;
 use crate::places::pointed_place;
 use crate::words::say_label;
 use crate::words::say_register;
-use checker::Held;
-use checker::Slot;
-use checker::enter;
 use checker::field_count;
 use checker::field_kind;
 use checker::field_level;
-use checker::is_exactly;
-use checker::slot_at;
 use listing::Item;
+use rules::Held;
+use rules::Slot;
+use rules::enter;
+use rules::is_exactly;
+use rules::slot_at;
 
 // What a context says of a register.
 pub(crate) fn slot_in(c: Held, r: u32) -> Slot {

@@ -7,11 +7,11 @@ use crate::out::say_wanted;
 use crate::parts::say_stack;
 use crate::places::label_place;
 use crate::words::say_label;
-use checker::Held;
-use checker::Stack;
-use checker::depth;
-use checker::enter;
 use listing::Item;
+use rules::Held;
+use rules::Stack;
+use rules::depth;
+use rules::enter;
 
 fn stack_of(c: Held) -> Stack {
     c.stack

@@ -2,20 +2,20 @@
 // depend on it; it is only told.
 use crate::places::label_place;
 use crate::places::pointed_place;
-use checker::Held;
-use checker::Stack;
 use checker::changed;
-use checker::enter;
 use checker::field_kind;
-use checker::nothing;
 use checker::raised;
-use checker::slot_at;
 use listing::Item;
 use listing::at_most;
 use listing::behind_item;
 use listing::item_at;
 use listing::items_place;
 use listing::limits::ITEMS;
+use rules::Held;
+use rules::Stack;
+use rules::enter;
+use rules::nothing;
+use rules::slot_at;
 
 // The context with a label on top of its stack; a full stack, which is refused before, stays.
 fn pushed(c: Held, l: u32) -> Held {

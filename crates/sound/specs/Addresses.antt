@@ -17,7 +17,7 @@ use Rattle.listing.specs.Limits.{ITEMS}
 use Rattle.listing.specs.Listing.{Listing, Ranges, numbersOf}
 use Rattle.listing.specs.Parts.{itemsIn}
 use Rattle.listing.specs.PartLaws.{listing-back}
-use Rattle.checker.specs.Context.{both}
+use Rattle.rules.specs.Context.{both}
 use Rattle.checker.specs.Judgement.{WellTyped}
 use Rattle.eraser.specs.Erase.{keptOf, keptIn, neededOf, countBehind, addressesOf, addressAt, wordFor, codeOf}
 use Rattle.eraser.specs.PassLaws.{needed-more, code-length}

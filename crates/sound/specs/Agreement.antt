@@ -6,8 +6,8 @@ use mathlib.Core.List.{List, [], _∷_}
 use lib.ListN.{getD}
 use Rattle.choice.specs.Pick.{pick}
 use Rattle.machine.specs.Step.{readOf}
-use Rattle.checker.specs.declared.contexts.Slot.{Slot}
-use Rattle.checker.specs.Context.{Context, slotAt}
+use Rattle.rules.specs.declared.contexts.Slot.{Slot}
+use Rattle.rules.specs.Context.{Context, slotAt}
 use Rattle.sound.specs.Observer as observer
 use Rattle.sound.specs.Items.{Spot}
 use Rattle.sound.specs.Setting.{Setting, labelIn, WordIn}

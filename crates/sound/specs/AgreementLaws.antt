@@ -7,7 +7,7 @@ use mathlib.Core.Logic.{_⊎_, inl, inr}
 use mathlib.Core.List.{List, _∷_}
 use Rattle.choice.specs.Pick.{is-true, is-false}
 use Rattle.machine.specs.Step.{readOf}
-use Rattle.checker.specs.Context.{Context, slotAt}
+use Rattle.rules.specs.Context.{Context, slotAt}
 use Rattle.sound.specs.Items.{Spot}
 use Rattle.sound.specs.Setting.{Setting, labelIn}
 use Rattle.sound.specs.RegisterLaws.{read-r0}

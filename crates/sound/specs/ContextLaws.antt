@@ -9,8 +9,8 @@ use lib.Seq.{drop-cons}
 use Rattle.listing.specs.declared.items.Item.{Item}
 use Rattle.listing.specs.declared.items.Item.the-variants.{Halt, Jmp, Bnz, Load, Store, Compute, ComputeImmediate, Cpush, Cjmp, Label}
 use Rattle.listing.specs.Listing.{Field, LabelContext, Listing}
-use Rattle.checker.specs.Context.{Context, entered, targetOf}
-use Rattle.checker.specs.Rules.{afterOf}
+use Rattle.rules.specs.Context.{Context, entered, targetOf}
+use Rattle.rules.specs.Rules.{afterOf}
 use Rattle.checker.specs.Judgement.{Now, due, inside, Typed, T-Eof, T-Due, T-Label, T-Halt, T-Jmp, T-CondBrnch, T-Arith, T-Arithi, T-Load, T-Store, T-Cpush, T-Cjmp, WellTyped}
 use Rattle.eraser.specs.Erase.{keptOf, neededOf}
 use Rattle.eraser.specs.ItemLaws.{needed-first}

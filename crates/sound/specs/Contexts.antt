@@ -5,9 +5,9 @@ use mathlib.Core.List.{List, [], _∷_}
 use Rattle.listing.specs.declared.items.Item.{Item}
 use Rattle.listing.specs.declared.items.Item.the-variants.{Halt, Jmp, Bnz, Load, Store, Compute, ComputeImmediate, Cpush, Cjmp, Label}
 use Rattle.listing.specs.Listing.{Field, LabelContext}
-use Rattle.checker.specs.Context.{entered, targetOf}
+use Rattle.rules.specs.Context.{entered, targetOf}
+use Rattle.rules.specs.Rules.{afterOf}
 use Rattle.checker.specs.Judgement.{Now, due, inside}
-use Rattle.checker.specs.Rules.{afterOf}
 
 module _ (_⊑_ : ℕ → ℕ → Bool) (_⊔_ : ℕ → ℕ → ℕ) (shapes : List (List Field)) (labels : List LabelContext) where
   -- behind an item that does not close its block, and is no label

@@ -11,9 +11,9 @@ use Rattle.machine.specs.Step.{readOf, writeOf}
 use Rattle.listing.specs.declared.items.Item.{Item}
 use Rattle.listing.specs.Limits.{TOP-PART}
 use Rattle.listing.specs.Listing.{LabelContext, ItemRange}
-use Rattle.checker.specs.declared.contexts.Slot.{Slot}
-use Rattle.checker.specs.Context.{INTEGER, Context, contextOf, typed, slotAt, entered, fieldOf}
-use Rattle.checker.specs.Rules.{afterOf}
+use Rattle.rules.specs.declared.contexts.Slot.{Slot}
+use Rattle.rules.specs.Context.{INTEGER, Context, contextOf, typed, slotAt, entered, fieldOf}
+use Rattle.rules.specs.Rules.{afterOf}
 use Rattle.checker.specs.Judgement.{inside, ST-RegBank, IsField, Lists, T-Label, T-Halt, T-Jmp, T-CondBrnch, T-Arith, T-Arithi, T-Load, T-Store, T-Cpush, T-Cjmp}
 use Rattle.start.specs.Meaning.{Holds}
 use Rattle.start.specs.Theorems.{block-fields}

@@ -8,7 +8,7 @@ use lib.Dec.{eqb}
 use Rattle.choice.specs.Pick.{pick}
 use Rattle.machine.specs.Step.{readOf, writeOf}
 use Rattle.listing.specs.Limits.{TOP-PART}
-use Rattle.checker.specs.Context.{Context, contextOf, typed, slotAt}
+use Rattle.rules.specs.Context.{Context, contextOf, typed, slotAt}
 use Rattle.checker.specs.Judgement.{inside}
 use Rattle.start.specs.Meaning.{Holds}
 use Rattle.sound.specs.Items.{Spot, spotAt}

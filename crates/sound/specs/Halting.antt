@@ -9,7 +9,7 @@ use Rattle.choice.specs.Pick.{pick}
 use Rattle.listing.specs.declared.items.Item.{Item}
 use Rattle.listing.specs.declared.items.Item.the-variants.{Halt}
 use Rattle.listing.specs.Listing.{Listing}
-use Rattle.checker.specs.Context.{Context, both}
+use Rattle.rules.specs.Context.{Context, both}
 use Rattle.checker.specs.Judgement.{Now, inside}
 use Rattle.eraser.specs.Erase.{keptOf, countBehind, neededOf}
 use Rattle.sound.specs.Contexts.{nowAt}

@@ -7,8 +7,8 @@ use mathlib.Core.List.{List, _∷_}
 use lib.ListN.{getD, set}
 use Rattle.choice.specs.Pick.{both}
 use Rattle.machine.specs.Step.{readOf, writeOf}
-use Rattle.checker.specs.declared.contexts.Slot.{Slot}
-use Rattle.checker.specs.Context.{Context, slotAt}
+use Rattle.rules.specs.declared.contexts.Slot.{Slot}
+use Rattle.rules.specs.Context.{Context, slotAt}
 use Rattle.checker.specs.Judgement.{inside}
 use Rattle.sound.specs.Items.{Spot, spotAt}
 use Rattle.sound.specs.Setting.{Setting, nowIn, labelIn, WordIn, Good}

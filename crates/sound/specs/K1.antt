@@ -15,8 +15,8 @@ use Rattle.machine.specs.Run as run
 use Rattle.listing.specs.Grammar as grammar
 use Rattle.listing.specs.Packet as reading
 use Rattle.listing.specs.Parts as parts
-use Rattle.checker.specs.Context as context
-use Rattle.checker.specs.Rules as rules
+use Rattle.rules.specs.Context as context
+use Rattle.rules.specs.Rules as rules
 use Rattle.checker.specs.Walk as walk
 use Rattle.checker.specs.Check as check
 use Rattle.eraser.specs.Erase as erase

@@ -12,7 +12,7 @@ use borrow.Author.Tests.{eq-eqb, ne-eqb}
 use Rattle.choice.specs.Pick.{pick, is-true, is-false, is-equal, not-equal}
 use Rattle.listing.specs.declared.items.Item.{Item}
 use Rattle.listing.specs.declared.items.Item.the-variants.{Label}
-use Rattle.checker.specs.Context.{both}
+use Rattle.rules.specs.Context.{both}
 use Rattle.checker.specs.Walk.{isLabel, labelIn}
 use Rattle.checker.specs.PlacedLaws.{Plain, by-label}
 use Rattle.checker.specs.Judgement.{placings}

@@ -12,7 +12,7 @@ use Rattle.machine.specs.Run.{after, outcomeFrom, refusalOf, runOf}
 use Rattle.machine.specs.RunLaws.{runs}
 use Rattle.listing.specs.declared.items.Item.the-variants.{Halt}
 use Rattle.listing.specs.Listing.{Listing, Ranges}
-use Rattle.checker.specs.Context.{Context}
+use Rattle.rules.specs.Context.{Context}
 use Rattle.checker.specs.Judgement.{inside, WellTyped}
 use Rattle.eraser.specs.Erase.{keptOf, addressesOf, codeOf}
 use Rattle.sound.specs.Contexts.{nowAt}

@@ -7,7 +7,7 @@ use lib.ListN.{length, getD}
 use Rattle.levels.specs.Order.{Order}
 use Rattle.machine.specs.Step.{Machine}
 use Rattle.listing.specs.Listing.{Field, Register, Listing, Each}
-use Rattle.checker.specs.Context.{slotAt}
+use Rattle.rules.specs.Context.{slotAt}
 use Rattle.checker.specs.Judgement.{Now, due, inside}
 use Rattle.start.specs.Start.{Row}
 use Rattle.start.specs.Meaning.{Word}

@@ -7,8 +7,8 @@ use mathlib.Core.List.{List}
 use lib.ListN.{length, getD, set, length-set}
 use Rattle.choice.specs.Pick.{both}
 use Rattle.machine.specs.Step.{readOf}
-use Rattle.checker.specs.declared.contexts.Slot.{Slot}
-use Rattle.checker.specs.Context.{Context}
+use Rattle.rules.specs.declared.contexts.Slot.{Slot}
+use Rattle.rules.specs.Context.{Context}
 use Rattle.start.specs.Meaning.{Holds, GoodRows}
 use Rattle.sound.specs.Observer.{Frame}
 use Rattle.sound.specs.Items.{Spot, spotAt, itemAt, moves, movesOf, Ok}

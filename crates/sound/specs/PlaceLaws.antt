@@ -12,7 +12,7 @@ use Rattle.listing.specs.declared.items.Item.{Item}
 use Rattle.listing.specs.declared.items.Item.the-variants.{Halt}
 use Rattle.listing.specs.Listing.{Field, LabelContext, ItemRange}
 use Rattle.start.specs.ClearLaws.{each-to}
-use Rattle.checker.specs.Context.{Context}
+use Rattle.rules.specs.Context.{Context}
 use Rattle.checker.specs.Judgement.{Now, inside, T-Halt}
 use Rattle.sound.specs.Contexts.{nowAfter, nowFrom}
 use Rattle.sound.specs.Items.{itemAt}

@@ -12,8 +12,8 @@ use Rattle.machine.specs.Step.{readOf, writeOf}
 use Rattle.machine.specs.TableLaws.{reads-zero, reads, writes}
 use Rattle.listing.specs.Limits.{TOP-PART}
 use Rattle.listing.specs.Listing.{Register, Each}
-use Rattle.checker.specs.declared.contexts.Slot.{Slot}
-use Rattle.checker.specs.Context.{INTEGER, unlisted, slotAt, slotOf, noRegisters, withListed}
+use Rattle.rules.specs.declared.contexts.Slot.{Slot}
+use Rattle.rules.specs.Context.{INTEGER, unlisted, slotAt, slotOf, noRegisters, withListed}
 use Rattle.checker.specs.Judgement.{Lists}
 
 -- r0 reads as 0; any other register as it stands

@@ -9,7 +9,7 @@ use Rattle.listing.specs.Limits.{TOP-PART}
 use Rattle.listing.specs.declared.items.Item.{Item}
 use Rattle.listing.specs.declared.items.Item.the-variants.{Halt}
 use Rattle.listing.specs.Listing.{Field, LabelContext, Each, ItemRange}
-use Rattle.checker.specs.Context.{Context, slotAt, entered, targetOf}
+use Rattle.rules.specs.Context.{Context, slotAt, entered, targetOf}
 use Rattle.checker.specs.Judgement.{Now, inside, Typed}
 use Rattle.start.specs.Start.{Row}
 use Rattle.start.specs.Meaning.{Holds, Word, GoodRows, GoodWords}

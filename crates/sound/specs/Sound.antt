@@ -9,7 +9,7 @@ use Rattle.machine.specs.Step.{Machine, machineAt, readOf}
 use Rattle.machine.specs.R0Laws.{reads-plain, after-keeps-r0}
 use Rattle.listing.specs.Limits.{TOP-PART}
 use Rattle.listing.specs.Listing.{Register, LabelContext, Listing, Ranges}
-use Rattle.checker.specs.Context.{targetOf}
+use Rattle.rules.specs.Context.{targetOf}
 use Rattle.checker.specs.Judgement.{Now, inside, WellTyped}
 use Rattle.start.specs.Start.{Row, listedFirst}
 use Rattle.start.specs.Meaning.{Passing}

@@ -9,7 +9,7 @@ use Rattle.machine.specs.Step.{readOf}
 use Rattle.machine.specs.R0Laws.{reads-plain}
 use Rattle.listing.specs.Limits.{TOP-PART}
 use Rattle.listing.specs.Listing.{Register, LabelContext}
-use Rattle.checker.specs.Context.{Context, slotAt, noRegisters, entered}
+use Rattle.rules.specs.Context.{Context, slotAt, noRegisters, entered}
 use Rattle.checker.specs.Judgement.{inside}
 use Rattle.start.specs.Meaning.{Holds, HoldsRegister, Passing}
 use Rattle.sound.specs.Observer.{StartsAgree}

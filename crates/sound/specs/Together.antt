@@ -6,7 +6,7 @@ use mathlib.Core.Bool.{Bool, true, false}
 use mathlib.Core.Logic.{inl, inr}
 use mathlib.Core.List.{List}
 use Rattle.choice.specs.Pick.{pick, both}
-use Rattle.checker.specs.Context.{Context}
+use Rattle.rules.specs.Context.{Context}
 use Rattle.checker.specs.Judgement.{inside}
 use Rattle.sound.specs.Items.{Spot, spotAt}
 use Rattle.sound.specs.Setting.{Setting, nowIn, Good}

@@ -4,7 +4,7 @@ use native.Mathlib.Omega.{arith}
 use mathlib.Core.Path.{_≡_, sym, ap, subst, _∙_}
 use mathlib.Core.List.{List, [], _∷_}
 use Rattle.listing.specs.declared.items.Item.{Item}
-use Rattle.checker.specs.Context.{Context}
+use Rattle.rules.specs.Context.{Context}
 use Rattle.checker.specs.Judgement.{Now, inside}
 use Rattle.sound.specs.Items.{Spot, itemAt, moves, movesOf}
 use Rattle.sound.specs.Setting.{Setting, nowIn, next, after, Halted, WellPlaced, Good}

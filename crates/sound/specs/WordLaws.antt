@@ -4,7 +4,7 @@ use native.Mathlib.Decide.{ℕ-discrete}
 use mathlib.Core.Path.{_≡_, sym, subst, _∙_}
 use lib.ListN.{length, getD, set}
 use lib.Seq.{getD-set-same, getD-set-other}
-use Rattle.checker.specs.Context.{Context}
+use Rattle.rules.specs.Context.{Context}
 use Rattle.start.specs.Theorems.{word-in-heap, word-is-one}
 use Rattle.sound.specs.Items.{Spot}
 use Rattle.sound.specs.Setting.{Setting, WordIn, Good}

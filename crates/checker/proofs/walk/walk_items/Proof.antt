@@ -1,4 +1,5 @@
 -- `walk_items`: the whole verdict is that of the walk from each item on.
+use Rattle.rules.specs.Held.{contextIn}
 use Rattle.checker.specs.WalkLaws.{turns, due-holds, write-turn}
 use Prim.Native.Nat.{_+_, _-_, _*_, _≤_}
 use mathlib.Core.Path.{_≡_}
@@ -7,7 +8,6 @@ use Rattle.levels.specs.Sets.{belowOf, joinOf}
 use Rattle.listing.specs.Limits.{ITEMS}
 use Rattle.listing.specs.Parts.{partsFrom, itemAt, behindItem, shapesIn, labelsIn, listingIn}
 use Rattle.listing.specs.PlaceLaws.{ITEM-NUMBERS, TOP-ITEMS-PLACE}
-use Rattle.checker.specs.Held.{contextIn}
 use Rattle.checker.specs.Walk.{walkFrom, walkOf}
 use borrow.Author.Needs.{needs}
 use Rattle.checker.proofs.walk.walk_items.Statement.{statement}
