@@ -2,8 +2,8 @@
 
 use peer::cases::listing::Case;
 use peer::cases::packet::pieces::K1;
-use peer::compare::enough_agree;
-use peer::compare::listing::{agreed, Tally};
+use peer::compare::listing::Tally;
+use peer::compare::{agree_next_to, enough_agree};
 
 #[test]
 fn proved_and_peer_agree() {
@@ -12,13 +12,5 @@ fn proved_and_peer_agree() {
 
 #[test]
 fn they_agree_on_k1_with_any_byte_changed_or_put_in() {
-    for place in 0..K1.len() {
-        for byte in 0..=255 {
-            for tail in [place, place + 1] {
-                let packet = [&K1[..place], &[byte], &K1[tail..]].concat();
-                let case = Case { packet, code: vec![0xa5; K1.len()] };
-                agreed(&case, 0).unwrap_or_else(|difference| panic!("{difference}"));
-            }
-        }
-    }
+    agree_next_to(&K1, |packet| Case { packet, code: vec![0xa5; K1.len()] });
 }

@@ -1,13 +1,12 @@
 //! What the cases reached, so that the comparison cannot become empty unseen.
 
-use super::agreed;
 use super::marks::Marks;
 use super::runs::Runs;
 use super::starts::Starts;
 use crate::answer::unpack;
 use crate::cases::desk::faults::{faults, Fault, Places, FAULTS};
 use crate::cases::desk::Case;
-use crate::compare::Comparison;
+use crate::compare::{agreed_case, assert_often, Comparison};
 use crate::desk_call::TABLE_WORDS;
 use crate::run_call::{BUDGET, HEAP_WORDS};
 use std::collections::BTreeMap;
@@ -77,27 +76,17 @@ impl Comparison for Tally {
     const ENOUGH: u64 = 120_000;
 
     fn add_case(&mut self, seed: u64, number: u64) -> Result<(), String> {
-        let case = Case::new(seed, number);
-        // The buffers start at every alignment: the call takes bytes.
-        let answer = agreed(&case, number as usize % 4)?;
-        self.add(&case, answer);
+        let (case, effect) = agreed_case::<Case>(seed, number)?;
+        self.add(&case, effect.answer);
         Ok(())
     }
 
     fn assert_full(&self) {
-        for number in (1..=6).chain([30, 31, 32, 33, 34, 35]) {
-            let times = self.answers.get(&number).copied().unwrap_or(0);
-            assert!(times >= 200, "answer {number} only {times} times");
-        }
-        for fault in FAULTS {
-            let times = self.alone.get(&fault).copied().unwrap_or(0);
-            assert!(times >= 200, "{fault:?} alone only {times} times");
-        }
+        assert_often(&self.answers, (1..=6).chain(30..=35), 200);
+        assert_often(&self.alone, FAULTS, 200);
         for (index, first) in FAULTS.into_iter().enumerate() {
-            for second in &FAULTS[index + 1..] {
-                let times = self.pairs.get(&(first, *second)).copied().unwrap_or(0);
-                assert!(times >= 300, "{first:?} and {second:?} only {times} times");
-            }
+            let later = FAULTS[index + 1..].iter();
+            assert_often(&self.pairs, later.map(|&second| (first, second)), 300);
         }
         self.edges.assert_full(5, 40);
         self.starts.assert_full();

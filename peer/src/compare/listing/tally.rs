@@ -1,12 +1,11 @@
 //! What the cases reached, so that the comparison cannot become empty unseen.
 
-use super::agreed;
 use super::refusals::Refused;
 use crate::answer::unpack;
 use crate::cases::listing::programs::FEWEST_ITEMS;
 use crate::cases::listing::Case;
 use crate::checker::Walk;
-use crate::compare::Comparison;
+use crate::compare::{agreed_case, assert_often, Comparison};
 use crate::erase_call::WORDS_DO_NOT_FIT;
 use crate::listing::context::Context;
 use crate::listing::item::Item;
@@ -104,27 +103,17 @@ impl Comparison for Tally {
     const ENOUGH: u64 = 200_000;
 
     fn add_case(&mut self, seed: u64, number: u64) -> Result<(), String> {
-        let case = Case::new(seed, number);
-        // The buffers start at every alignment: the calls take bytes.
-        let effect = agreed(&case, number as usize % 4)?;
+        let (case, effect) = agreed_case::<Case>(seed, number)?;
         self.add(&case, effect.check, effect.erase);
         Ok(())
     }
 
     fn assert_full(&self) {
-        let checks = |number| self.checks.get(&number).copied().unwrap_or(0);
-        assert!(checks(0) >= 40_000, "only {} accepted", checks(0));
-        for number in 1..=5 {
-            assert!(checks(number) >= 200, "answer {number} only {} times", checks(number));
-        }
-        assert!(checks(6) >= 20, "answer 6 only {} times", checks(6));
-        for number in 10..=23 {
-            assert!(checks(number) >= 2_000, "answer {number} only {} times", checks(number));
-        }
-        for number in [0, BAD_BUFFER, WORDS_DO_NOT_FIT] {
-            let times = self.erases.get(&number).copied().unwrap_or(0);
-            assert!(times >= 5_000, "erase answers {number} only {times} times");
-        }
+        assert_often(&self.checks, [0], 40_000);
+        assert_often(&self.checks, 1..=5, 200);
+        assert_often(&self.checks, [6], 20);
+        assert_often(&self.checks, 10..=23, 2_000);
+        assert_often(&self.erases, [0, BAD_BUFFER, WORDS_DO_NOT_FIT], 5_000);
         assert!(self.items.iter().all(|&times| times >= 50_000), "an item is too seldom accepted");
         for (name, &times) in &self.accepted {
             assert!(times >= 300, "{name} only {times} times");

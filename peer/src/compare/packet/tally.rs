@@ -1,9 +1,8 @@
 //! What the cases reached, so that the comparison cannot become empty unseen.
 
-use super::agreed;
 use crate::answer::unpack;
 use crate::cases::packet::Case;
-use crate::compare::Comparison;
+use crate::compare::{agreed_case, assert_often, Comparison};
 use crate::packet::grammar::{listing, Due, Source};
 use crate::packet::{Reader, Refusal, BAD_NUMBER, BYTES_END, OUT_OF_RANGE, PACKET_BYTES};
 use crate::read_call::NUMBERS_DO_NOT_FIT;
@@ -60,22 +59,17 @@ impl Comparison for Tally {
     const ENOUGH: u64 = 200_000;
 
     fn add_case(&mut self, seed: u64, number: u64) -> Result<(), String> {
-        let case = Case::new(seed, number);
-        // The buffers start at every alignment: the call takes bytes.
-        let answer = agreed(&case, number as usize % 4)?;
-        self.add(&case, answer);
+        let (case, effect) = agreed_case::<Case>(seed, number)?;
+        self.add(&case, effect.answer);
         Ok(())
     }
 
     fn assert_full(&self) {
-        for number in [0, 1, 2, 3, 4, 5, 6, 35] {
-            let times = self.answers.get(&number).copied().unwrap_or(0);
-            assert!(times >= 1_000, "answer {number} only {times} times");
-        }
-        assert_often(&self.ends, SORTS, 30);
-        assert_often(&self.bad_numbers, SORTS, 60);
+        assert_often(&self.answers, [0, 1, 2, 3, 4, 5, 6, 35], 1_000);
+        assert_sorts(&self.ends, SORTS, 30);
+        assert_sorts(&self.bad_numbers, SORTS, 60);
         // An edition out of range has a refusal of its own.
-        assert_often(&self.out_of_range, SORTS - 1, 100);
+        assert_sorts(&self.out_of_range, SORTS - 1, 100);
         assert!(self.long_listings >= 2_000, "too few long listings");
         assert!(self.full_packets >= 500, "too few full packets");
         assert!(self.longer_buffers >= 5_000, "too few longer buffers");
@@ -99,7 +93,7 @@ impl fmt::Display for Tally {
 }
 
 /// All sorts of number have the fault, and so many times each.
-fn assert_often(faults: &Faults, sorts: usize, least: u64) {
+fn assert_sorts(faults: &Faults, sorts: usize, least: u64) {
     assert_eq!(faults.len(), sorts, "only these have the fault: {:?}", faults.keys());
     assert!(faults.values().all(|&times| times >= least), "too seldom: {}", summary(faults));
 }

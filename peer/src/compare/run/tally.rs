@@ -1,10 +1,9 @@
 //! What the cases reached, so that the comparison cannot become empty unseen.
 
-use super::agreed;
 use crate::answer::unpack;
 use crate::bytes::{registers_of, words_of};
 use crate::cases::run::Case;
-use crate::compare::Comparison;
+use crate::compare::{agreed_case, assert_often, Comparison};
 use crate::machine::{Machine, Status};
 use crate::run_call::refusals;
 use crate::word::{opcode, LOAD, STORE};
@@ -67,18 +66,13 @@ impl Comparison for Tally {
     const ENOUGH: u64 = 400_000;
 
     fn add_case(&mut self, seed: u64, number: u64) -> Result<(), String> {
-        let case = Case::new(seed, number);
-        // The buffers start at every alignment: the call takes bytes.
-        let answer = agreed(&case, number as usize % 4)?;
-        self.add(&case, answer);
+        let (case, effect) = agreed_case::<Case>(seed, number)?;
+        self.add(&case, effect.answer);
         Ok(())
     }
 
     fn assert_full(&self) {
-        for number in [0, 40, 41, 42, 43, 36, 30, 34] {
-            let times = self.answers.get(&number).copied().unwrap_or(0);
-            assert!(times >= 1_000, "answer {number} only {times} times");
-        }
+        assert_often(&self.answers, [0, 40, 41, 42, 43, 36, 30, 34], 1_000);
         let seldom = |times: &[u64], least| times.iter().any(|&times| times < least);
         assert!(!seldom(&self.acted, 10_000), "an opcode is acted on too seldom");
         assert!(!seldom(&self.bad_words, 200), "an opcode is damaged too seldom");
