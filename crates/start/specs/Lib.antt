@@ -7,7 +7,7 @@ pub mod PartLaws  -- where a shape's fields and the first label's registers stan
 pub mod SearchLaws  -- one law for each way through the code of the searches
 pub mod ClearLaws  -- each test is clear of a fault exactly where its statement of Meaning holds
 pub mod RowLaws  -- the same of the rows
-pub mod RisingLaws  -- where bases rise, the row of a base is found by halving
+pub mod KindLaws  -- where bases rise, the kinds of blocks are entered by address
 pub mod RefusalLaws  -- a refusal is the first
 pub mod PassingLaws  -- the whole check is clear exactly where a start is a passing one
 pub mod ListedLaws  -- the indices of the registers that the first label lists

@@ -139,8 +139,11 @@ fieldsFault shapes rows heap = firstOf (blockFault shapes rows heap) rows
 unfoldable pub registersFault : List Row → List Register → List ℕ → Fault
 registersFault rows listed regs = orElse (unless BAD-REGISTER 0 (eqb (getD regs 0 0) 0)) (firstOf (registerFault rows regs) listed)
 
+abbrev pub heldFault : List (List Field) → List Register → List ℕ → List Row → List ℕ → Fault
+heldFault shapes listed heap rows regs = orElse (fieldsFault shapes rows heap) (registersFault rows listed regs)
+
 unfoldable pub startIn : List (List Field) → List Register → List ℕ → List Row → List ℕ → Fault
-startIn shapes listed heap rows regs = orElse (rowsFault shapes rows heap) (orElse (fieldsFault shapes rows heap) (registersFault rows listed regs))
+startIn shapes listed heap rows regs = orElse (rowsFault shapes rows heap) (heldFault shapes listed heap rows regs)
 
 -- what the start check answers
 abbrev pub startOf : List ℕ → List ℕ → List ℕ → List ℕ → Fault

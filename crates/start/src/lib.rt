@@ -3,6 +3,7 @@
 // of the checker, the eraser or the machine. Read specs/Start.antt first.
 mod checking;
 mod faults;
+mod kinds;
 pub mod numbers;
 mod pointers;
 mod rows;

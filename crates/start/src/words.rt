@@ -9,24 +9,38 @@ use listing::limits::SHAPES;
 use listing::number_at;
 ghost use mathlib.Core.Path.{_≡_};
 ghost use Rattle.listing.specs.Parts.{shapesIn, fieldAt};
-ghost use Rattle.start.specs.RisingLaws.{Rising};
+ghost use Rattle.start.specs.KindLaws.{Kinds};
 ghost use Rattle.start.specs.Start.{rowsOf, wordOf, wordFault, blockFault, fieldsFault};
 ghost use Rattle.start.specs.SearchLaws.{rowOf};
 
 // The fault of the block word at an address, whose field stands at a place.
-fn word_fault(numbers: &[u32], heap: &[u32], blocks: &[u32], address: usize, at: u32) -> Fault
-    requires { ⌜ Rising (now blocks) ⌝ }
+fn word_fault(
+    numbers: &[u32],
+    heap: &[u32],
+    blocks: &[u32],
+    kinds: &[u8],
+    address: usize,
+    at: u32,
+) -> Fault
+    requires { ⌜ Kinds (now blocks) (now kinds) ⌝ }
     ensures { λ r. ⌜ r ≡ wordFault (rowsOf (now (blocks .entry))) (now (heap .entry)) (wordOf address (fieldAt (now (numbers .entry)) at)) ⌝ }
 {
     let kind = count_at(SHAPES, numbers, at);
     let value = number_at(heap, address);
-    let ok = is_of_kind(blocks, kind, value);
+    let ok = is_of_kind(blocks, kinds, kind, value);
     refuse_unless(BAD_FIELD, address, ok)
 }
 
 // The first fault of a block's words.
-fn block_fault(numbers: &[u32], heap: &[u32], blocks: &[u32], base: u32, s: u32) -> Fault
-    requires { ⌜ Rising (now blocks) ⌝ }
+fn block_fault(
+    numbers: &[u32],
+    heap: &[u32],
+    blocks: &[u32],
+    kinds: &[u8],
+    base: u32,
+    s: u32,
+) -> Fault
+    requires { ⌜ Kinds (now blocks) (now kinds) ⌝ }
     ensures { λ r. ⌜ r ≡ blockFault (shapesIn (now (numbers .entry))) (rowsOf (now (blocks .entry))) (now (heap .entry)) (rowOf base s) ⌝ }
 {
     let fields = shape(numbers, s);
@@ -34,7 +48,7 @@ fn block_fault(numbers: &[u32], heap: &[u32], blocks: &[u32], base: u32, s: u32)
     let mut left = fields.count;
     let mut address = base as usize;
     while 0 < left {
-        let fault = word_fault(numbers, heap, blocks, address, at);
+        let fault = word_fault(numbers, heap, blocks, kinds, address, at);
         if fault.number == 0 {
             address += 1;
             at += 2;
@@ -50,14 +64,14 @@ fn block_fault(numbers: &[u32], heap: &[u32], blocks: &[u32], base: u32, s: u32)
 }
 
 // The first fault of all blocks' words.
-pub fn fields_fault(numbers: &[u32], heap: &[u32], blocks: &[u32]) -> Fault
-    requires { ⌜ Rising (now blocks) ⌝ }
+pub fn fields_fault(numbers: &[u32], heap: &[u32], blocks: &[u32], kinds: &[u8]) -> Fault
+    requires { ⌜ Kinds (now blocks) (now kinds) ⌝ }
     ensures { λ r. ⌜ r ≡ fieldsFault (shapesIn (now (numbers .entry))) (rowsOf (now (blocks .entry))) (now (heap .entry)) ⌝ }
 {
     let mut at = 0;
     let mut left = blocks.len() / 2;
     while 0 < left {
-        let fault = block_fault(numbers, heap, blocks, blocks[at], blocks[at + 1]);
+        let fault = block_fault(numbers, heap, blocks, kinds, blocks[at], blocks[at + 1]);
         if fault.number == 0 {
             at += 2;
             left -= 1;

@@ -1,7 +1,7 @@
--- `check` makes the three searches in order, and stops at the first fault.
+-- `check` looks at the rows first.
 use Rattle.start.specs.Start.{rowsFault, startIn}
 use Rattle.start.specs.SearchLaws.{orders}
-use Rattle.start.specs.RisingLaws.{good-rise}
+use Rattle.start.specs.KindLaws.{good-rise}
 use borrow.Author.Needs.{needs}
 use Rattle.start.proofs.checking.check.Statement.{statement}
 use Rattle.start.proofs.checking.check.Tie as tie
@@ -13,7 +13,5 @@ check-spec =
     (tie.spec
     (λ c κs. search needs)
     (λ c κs. search (good-rise, needs))
-    (λ c κs. search (good-rise, needs))
-    (λ c. search (orders, needs))
     (λ c. search (orders, needs))
     (λ c. search (orders, needs)))

@@ -11,12 +11,12 @@ use Rattle.start.proofs.checking.listed_fault.Statement.{statement}
 use Rattle.start.proofs.checking.listed_fault.Tie as tie
 
 abbrev Inv-loop : tie.InvT-loop
-Inv-loop numbers blocks regs at₀ left₀ at left =
+Inv-loop numbers blocks kinds regs at₀ left₀ at left =
     (firstOf (registerFault (rowsOf blocks) regs) (firstListed numbers) ≡ firstOf (registerFault (rowsOf blocks) regs) (registersIn numbers at left))
     × (at + 3 * left ≤ TOP-ITEMS-PLACE)
 
 abbrev μ-loop : tie.MeasureT-loop
-μ-loop numbers blocks regs at₀ left₀ at left = left
+μ-loop numbers blocks kinds regs at₀ left₀ at left = left
 
 pub listed-fault-spec : {M : Type 1} → statement M
 listed-fault-spec =

@@ -1,6 +1,7 @@
--- `is_of_kind`: each branch is a case of the definition.
+-- `is_of_kind`: an integer is one always, a pointer by the table or by the rows.
 use Rattle.choice.specs.Pick.{cases}
 use Rattle.start.specs.Start.{isOfKind}
+use Rattle.start.specs.KindLaws.{kinds}
 use borrow.Author.Needs.{needs}
 use Rattle.start.proofs.pointers.is_of_kind.Statement.{statement}
 use Rattle.start.proofs.pointers.is_of_kind.Tie as tie
@@ -11,6 +12,9 @@ is-of-kind-spec =
     tie.close
     (tie.spec
     (λ c. search (cases, needs))
+    (λ c. search needs)
+    (λ c κs. search needs)
+    (λ c. search (kinds, needs))
     (λ c. search needs)
     (λ c κs. search needs)
     (λ c. search (cases, needs)))

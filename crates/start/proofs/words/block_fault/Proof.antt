@@ -12,13 +12,13 @@ use Rattle.start.proofs.words.block_fault.Statement.{statement}
 use Rattle.start.proofs.words.block_fault.Tie as tie
 
 abbrev Inv-loop : tie.InvT-loop
-Inv-loop numbers heap blocks base s at₀ left₀ address₀ at left address =
+Inv-loop numbers heap blocks kinds base s at₀ left₀ address₀ at left address =
     (blockFault (shapesIn numbers) (rowsOf blocks) heap (rowOf base s) ≡ firstOf (wordFault (rowsOf blocks) heap) (wordsFrom address (fieldsIn numbers at left)))
     × (at + 2 * left ≤ TOP-LABELS-PLACE)
     × (address + left ≤ base + TOP-LABELS-PLACE)
 
 abbrev μ-loop : tie.MeasureT-loop
-μ-loop numbers heap blocks base s at₀ left₀ address₀ at left address = left
+μ-loop numbers heap blocks kinds base s at₀ left₀ address₀ at left address = left
 
 pub block-fault-spec : {M : Type 1} → statement M
 unfolding blockFault

@@ -11,12 +11,12 @@ use Rattle.start.proofs.words.fields_fault.Statement.{statement}
 use Rattle.start.proofs.words.fields_fault.Tie as tie
 
 abbrev Inv-loop : tie.InvT-loop
-Inv-loop numbers heap blocks at₀ left₀ at left =
+Inv-loop numbers heap blocks kinds at₀ left₀ at left =
     (fieldsFault (shapesIn numbers) (rowsOf blocks) heap ≡ firstOf (blockFault (shapesIn numbers) (rowsOf blocks) heap) (rowsLeft blocks at left))
     × (at + 2 * left ≤ length blocks)
 
 abbrev μ-loop : tie.MeasureT-loop
-μ-loop numbers heap blocks at₀ left₀ at left = left
+μ-loop numbers heap blocks kinds at₀ left₀ at left = left
 
 pub fields-fault-spec : {M : Type 1} → statement M
 unfolding rowsOf fieldsFault
