@@ -10,20 +10,21 @@ use lib.Seq.{length-take-le, take-at}
 use Rattle.choice.specs.Pick.{is-less, not-less, is-equal, not-equal}
 use Rattle.machine.specs.Numbers.{CODE-WORDS, BAD-SIZE}
 use Rattle.listing.specs.declared.items.Item.{Item}
-use Rattle.listing.specs.declared.reading.Taken.{Taken}
 use Rattle.listing.specs.Limits.{BYTES, ITEMS, TOO-LONG}
-use Rattle.listing.specs.Packet.{takenOf, numbersIn}
+use Rattle.listing.specs.Packet.{numbersIn}
 use Rattle.listing.specs.Parts.{itemsIn}
 use Rattle.checker.specs.declared.packets.Checked.{Checked}
 use Rattle.checker.specs.declared.packets.Checked.the-variants.{Accepted, Refused, NoRoom}
-use Rattle.checker.specs.Check.{verdictIn, checkingOf, checkedBy, checkIn, checkOf}
+use Rattle.checker.specs.Check.{checkingOf, checkIn}
 use Rattle.checker.specs.CheckLaws.{check-answer, check-count, check-numbers, check-place}
 use Rattle.eraser.specs.Erase.{keptIn, neededOf, addressesOf, wordFor, codeOf, Erased, erasedBy, eraseOf, eraseItems}
 use Rattle.eraser.specs.Theorems.{needed-fits}
 use Rattle.eraser.specs.PassLaws.{code-length}
+use Rattle.service.specs.Numbers.{DOES-NOT-FIT}
+use Rattle.service.specs.DeskLaws.{too-long}
 use Rattle.desk.specs.Bytes.{bytesOf}
 use Rattle.desk.specs.Answer.{answerOf}
-use Rattle.desk.specs.PacketCall.{PacketCall, packetCall, DOES-NOT-FIT}
+use Rattle.desk.specs.PacketCall.{PacketCall, packetCall}
 use Rattle.desk.specs.CheckCall.{answerBy, vansCheckOf}
 use Rattle.desk.specs.EraseCall.{codeOut, erasedOut, eraseBy, vansEraseOf}
 
@@ -142,16 +143,12 @@ pub ruleset codes = (refl, code-small, code-fits, code-not, code-over, code-ragg
 
 -- a packet over the limit
 module _ (packet : List ℕ) (h : BYTES < length packet) where
-  pub too-long : Refused TOO-LONG 0 ≡ checkOf packet
-  unfolding checkOf takenOf checkedBy
-  too-long = ap (λ (t : Taken). checkedBy t (verdictIn packet)) (is-less BYTES (length packet) _ _ _ h refl)
-
   pub too-long-checked : (a : ℕ) → a ≡ answerOf TOO-LONG 0 0 → a ≡ vansCheckOf packet
   unfolding vansCheckOf answerBy
-  too-long-checked a p = p ∙ ap answerBy too-long
+  too-long-checked a p = p ∙ ap answerBy (too-long packet h)
 
   pub too-long-erased : (a : ℕ) (out : List ℕ) (c : PacketCall) → a ≡ answerOf TOO-LONG 0 0 → c ≡ packetCall a out → c ≡ vansEraseOf packet out
   unfolding vansEraseOf eraseBy answerBy
-  too-long-erased a out c p q = q ∙ ap (λ (x : ℕ). packetCall x out) p ∙ ap (λ (y : Checked). eraseBy y (numbersIn packet) out) too-long
+  too-long-erased a out c p q = q ∙ ap (λ (x : ℕ). packetCall x out) p ∙ ap (λ (y : Checked). eraseBy y (numbersIn packet) out) (too-long packet h)
 
 pub ruleset long = (refl, too-long-checked, too-long-erased)

@@ -4,8 +4,8 @@ use mathlib.Core.List.{List}
 use Rattle.checker.specs.declared.packets.Checked.{Checked}
 use Rattle.checker.specs.declared.packets.Checked.the-variants.{Accepted, Refused, NoRoom}
 use Rattle.checker.specs.Check.{checkOf}
+use Rattle.service.specs.Numbers.{DOES-NOT-FIT}
 use Rattle.desk.specs.Answer.{answerOf}
-use Rattle.desk.specs.PacketCall.{DOES-NOT-FIT}
 
 -- by what the packet is. checkOf is never NoRoom; were it, that would be a refusal
 unfoldable pub answerBy : Checked → ℕ

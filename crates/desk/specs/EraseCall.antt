@@ -12,9 +12,10 @@ use Rattle.checker.specs.declared.packets.Checked.{Checked}
 use Rattle.checker.specs.declared.packets.Checked.the-variants.{Accepted, Refused, NoRoom}
 use Rattle.checker.specs.Check.{checkOf}
 use Rattle.eraser.specs.Erase.{addressesOf, codeOf}
+use Rattle.service.specs.Numbers.{DOES-NOT-FIT}
 use Rattle.desk.specs.Bytes.{bytesOf}
 use Rattle.desk.specs.Answer.{answerOf}
-use Rattle.desk.specs.PacketCall.{PacketCall, packetCall, DOES-NOT-FIT}
+use Rattle.desk.specs.PacketCall.{PacketCall, packetCall}
 use Rattle.desk.specs.CheckCall.{answerBy}
 
 -- a code in bytes, in front of a buffer of whole words that it fits; bytes past it keep their values

@@ -1,5 +1,4 @@
--- What the desk call and the C border answer, and what they leave in each buffer. To believe the desk call, read Desk; to believe the C border, read Bytes, Answer, RunCall, PacketCall, ReadCall, CheckCall, EraseCall, LentCall and VansDesk; the rest are laws.
-pub mod Desk  -- the desk call on words
+-- What the C border answers, and what it leaves in each buffer. To believe it, read Bytes, Answer, RunCall, PacketCall, ReadCall, CheckCall, EraseCall, LentCall and VansDesk; the rest are laws.
 pub mod Bytes  -- words as bytes, lowest first
 pub mod ByteLaws  -- bytes to words and back, both ways
 pub mod Answer  -- the one number that a call answers
@@ -11,7 +10,6 @@ pub mod ReadCallLaws  -- for the proofs of the code of vans_read
 pub mod CheckCall  -- vans_check: the checker
 pub mod EraseCall  -- vans_erase: the eraser on byte buffers
 pub mod CallLaws  -- for the proofs of the code of vans_check and vans_erase
-pub mod DeskLaws  -- for the proofs of the code of the desk call
 pub mod LentCall  -- what a call on a packet leaves in three buffers
 pub mod VansDesk  -- vans_desk: the desk call on byte buffers
 pub mod VansDeskLaws  -- for the proofs of its code behind the checker

@@ -8,7 +8,3 @@ pub record PacketCall : Type 0 where
 
 abbrev pub packetCall : ℕ → List ℕ → PacketCall
 packetCall answer out = record { answer = answer; out = out }
-
--- the refusal of a buffer that is too short for what would be written to it
-abbrev pub DOES-NOT-FIT : ℕ
-DOES-NOT-FIT = 35

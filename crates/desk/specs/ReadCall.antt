@@ -7,9 +7,10 @@ use Rattle.choice.specs.Pick.{pick}
 use Rattle.listing.specs.declared.reading.Taken.{Taken}
 use Rattle.listing.specs.declared.reading.Taken.the-variants.{Listing, Fault, NoRoom}
 use Rattle.listing.specs.Packet.{numbersIn, takenOf}
+use Rattle.service.specs.Numbers.{DOES-NOT-FIT}
 use Rattle.desk.specs.Bytes.{bytesOf}
 use Rattle.desk.specs.Answer.{answerOf}
-use Rattle.desk.specs.PacketCall.{PacketCall, packetCall, DOES-NOT-FIT}
+use Rattle.desk.specs.PacketCall.{PacketCall, packetCall}
 
 -- n numbers handed over in bytes, in front of the buffer, where they fit; else 35 with the words needed
 unfoldable pub handedOf : List ℕ → ℕ → List ℕ → PacketCall

@@ -13,9 +13,10 @@ use Rattle.listing.specs.declared.reading.Taken.the-variants.{Listing, Fault, N
 use Rattle.listing.specs.Limits.{BYTES, TOO-LONG}
 use Rattle.listing.specs.Packet.{readingOf, packetOf, numbersIn, takenOf}
 use Rattle.listing.specs.TakenLaws.{read-taken, read-count, read-place, read-numbers}
+use Rattle.service.specs.Numbers.{DOES-NOT-FIT}
 use Rattle.desk.specs.Bytes.{bytesOf}
 use Rattle.desk.specs.Answer.{answerOf}
-use Rattle.desk.specs.PacketCall.{PacketCall, packetCall, DOES-NOT-FIT}
+use Rattle.desk.specs.PacketCall.{PacketCall, packetCall}
 use Rattle.desk.specs.ReadCall.{handedOf, byTaken, vansReadOf}
 
 -- the front of a list has as many elements as were asked for

@@ -15,15 +15,16 @@ use Rattle.checker.specs.Check.{verdictIn, checkingOf, checkIn, checkOf}
 use Rattle.checker.specs.CheckLaws.{accepted-taken, check-answer, check-numbers}
 use Rattle.start.specs.Start.{firstListed, faultOf}
 use Rattle.start.specs.ListedLaws.{Indexed, listing-indexed}
+use Rattle.service.specs.Numbers.{DOES-NOT-FIT}
+use Rattle.service.specs.DeskLaws.{too-long}
 use Rattle.desk.specs.Bytes.{wordsOf}
 use Rattle.desk.specs.Answer.{answerOf}
-use Rattle.desk.specs.PacketCall.{PacketCall, packetCall, DOES-NOT-FIT}
+use Rattle.desk.specs.PacketCall.{PacketCall, packetCall}
 use Rattle.desk.specs.LentCall.{LentCall, lentCall, beside}
 use Rattle.desk.specs.ReadCall.{vansReadOf}
 use Rattle.desk.specs.CheckCall.{vansCheckOf}
 use Rattle.desk.specs.EraseCall.{vansEraseOf}
 use Rattle.desk.specs.VansDesk.{refusedBytes, serveBytes, bytesFault, vansDeskBy, vansDeskOf}
-use Rattle.desk.specs.CallLaws.{too-long}
 use Rattle.desk.specs.Tasks.{taskOf}
 
 -- by what the checker says of a packet

@@ -16,13 +16,13 @@ use Rattle.checker.specs.Check.{checkOf}
 use Rattle.eraser.specs.Erase.{neededOf}
 use Rattle.start.specs.declared.faults.Fault.{Fault}
 use Rattle.start.specs.Start.{faultOf, orElse, startOf}
+use Rattle.service.specs.Numbers.{DOES-NOT-FIT}
+use Rattle.service.specs.Desk.{rightSizes, sizesOf, laterFault, codeFor, ranOf, DeskCall, refusedCall, ranCall, serveBy, deskBy, deskOf}
 use Rattle.desk.specs.Bytes.{wordsOf, byteOf, bytesOf}
 use Rattle.desk.specs.ByteLaws.{bytes-back}
 use Rattle.desk.specs.Answer.{answerOf}
 use Rattle.desk.specs.RunCall.{REGS-BYTES}
 use Rattle.desk.specs.LentCall.{LentCall, lentCall}
-use Rattle.desk.specs.PacketCall.{DOES-NOT-FIT}
-use Rattle.desk.specs.Desk.{rightSizes, sizesOf, laterFault, codeFor, ranOf, DeskCall, refusedCall, ranCall, serveBy, deskBy, deskOf}
 use Rattle.desk.specs.VansDesk.{wholeOf, refusedBytes, ranBytes, serveBytes, bytesSize, bytesFault, vansDeskBy, vansDeskOf}
 use Rattle.desk.specs.VansDeskLaws.{whole-means}
 

@@ -6,8 +6,6 @@ use Rattle.desk.specs.RunCall.{RunCall, runCall, vansRunOf}
 use Rattle.desk.specs.PacketCall.{PacketCall, packetCall}
 use Rattle.desk.specs.ReadCall.{vansReadOf}
 use Rattle.desk.specs.EraseCall.{vansEraseOf}
-use Rattle.desk.specs.declared.desk_call.Service.{Service}
-use Rattle.desk.specs.Desk.{DeskCall, deskCall, deskOf}
 use Rattle.desk.specs.LentCall.{LentCall, lentCall}
 use Rattle.desk.specs.VansDesk.{vansDeskOf}
 
@@ -28,12 +26,6 @@ vans-read-unique packet numbers = same-call (vansReadOf packet numbers)
 pub vans-erase-unique : (packet code : List ℕ) (a a′ : ℕ) (code₁ code₂ : List ℕ)
     → packetCall a code₁ ≡ vansEraseOf packet code → packetCall a′ code₂ ≡ vansEraseOf packet code → (a ≡ a′) × (code₁ ≡ code₂)
 vans-erase-unique packet code = same-call (vansEraseOf packet code)
-
-pub desk-unique : (packet code heap blocks regs : List ℕ) (budget : ℕ) (r r′ : Service) (code₁ code₂ heap₁ heap₂ : List ℕ)
-    → deskCall r code₁ heap₁ ≡ deskOf packet code heap blocks regs budget → deskCall r′ code₂ heap₂ ≡ deskOf packet code heap blocks regs budget
-    → (r ≡ r′) × (code₁ ≡ code₂) × (heap₁ ≡ heap₂)
-desk-unique packet code heap blocks regs budget r r′ code₁ code₂ heap₁ heap₂ p q =
-    (ap (λ (c : DeskCall). c .answer) (p ∙ sym q), ap (λ (c : DeskCall). c .code) (p ∙ sym q), ap (λ (c : DeskCall). c .heap) (p ∙ sym q))
 
 pub vans-desk-unique : (packet code heap blocks regs : List ℕ) (budget a a′ : ℕ) (code₁ code₂ heap₁ heap₂ regs₁ regs₂ : List ℕ)
     → lentCall a code₁ heap₁ regs₁ ≡ vansDeskOf packet code heap blocks regs budget → lentCall a′ code₂ heap₂ regs₂ ≡ vansDeskOf packet code heap blocks regs budget

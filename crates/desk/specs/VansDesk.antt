@@ -14,12 +14,12 @@ use Rattle.checker.specs.Check.{checkOf}
 use Rattle.eraser.specs.Erase.{neededOf}
 use Rattle.start.specs.declared.faults.Fault.{Fault}
 use Rattle.start.specs.Start.{faultOf, orElse, startOf}
+use Rattle.service.specs.Numbers.{DOES-NOT-FIT}
+use Rattle.service.specs.Desk.{rightSizes, sizesOf, codeFor, ranOf}
 use Rattle.desk.specs.Bytes.{wordsOf, bytesOf}
 use Rattle.desk.specs.Answer.{answerOf}
 use Rattle.desk.specs.RunCall.{REGS-BYTES}
-use Rattle.desk.specs.PacketCall.{DOES-NOT-FIT}
 use Rattle.desk.specs.LentCall.{LentCall, lentCall}
-use Rattle.desk.specs.Desk.{rightSizes, sizesOf, codeFor, ranOf}
 
 -- buffers of so many bytes are whole words, and sixteen registers
 unfoldable pub wholeOf : ℕ → ℕ → ℕ → ℕ → Bool

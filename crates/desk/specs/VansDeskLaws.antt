@@ -22,12 +22,13 @@ use Rattle.start.specs.declared.faults.Fault.{Fault}
 use Rattle.start.specs.Start.{rowAt, rowsOf, orElse, firstListed, startOf}
 use Rattle.start.specs.Theorems.{refusal-is-first, place-below}
 use Rattle.start.specs.ListedLaws.{Indexed}
+use Rattle.service.specs.Numbers.{BLOCK-WORDS}
+use Rattle.service.specs.Desk.{rightSizes, sizesOf, codeFor, ranOf}
+use Rattle.service.specs.DeskLaws.{right-means, sizes-pass, needed-is, erased-front}
 use Rattle.desk.specs.Bytes.{wordsOf, bytesOf}
 use Rattle.desk.specs.Answer.{answerOf}
 use Rattle.desk.specs.RunCall.{REGS-BYTES, SMALL-WORDS, RunCall, runCall, inBytes}
 use Rattle.desk.specs.LentCall.{LentCall, lentCall}
-use Rattle.desk.specs.Desk.{BLOCK-WORDS, rightSizes, sizesOf, codeFor, ranOf}
-use Rattle.desk.specs.DeskLaws.{right-means, sizes-pass, needed-is, erased-front}
 use Rattle.desk.specs.CallLaws.{items-fit}
 use Rattle.desk.specs.VansDesk.{wholeOf, refusedBytes, ranBytes, serveBytes, bytesSize, bytesFault}
 

@@ -1,8 +1,5 @@
 // vans_desk behind the checker: a listing's numbers served over byte buffers.
 use crate::answers::answer;
-use crate::desk_call::BLOCK_WORDS;
-use crate::desk_call::right_sizes;
-use crate::desk_call::sizes;
 use crate::run_call::REGS_BYTES;
 use crate::run_call::SMALL_WORDS;
 use crate::run_call::code_room;
@@ -13,6 +10,7 @@ use crate::run_call::small_room;
 use crate::words::fill;
 use crate::words::spill;
 use machine::numbers::CODE_WORDS;
+use service::numbers::BLOCK_WORDS;
 use start::Fault;
 ghost use mathlib.Core.Path.{_≡_};
 ghost use Prim.Native.Nat.{_*_, _/_, _≤_};
@@ -22,10 +20,11 @@ ghost use Rattle.listing.specs.Parts.{itemsIn};
 ghost use Rattle.eraser.specs.Erase.{neededOf};
 ghost use Rattle.start.specs.Start.{firstListed, startOf};
 ghost use Rattle.start.specs.ListedLaws.{Indexed};
+ghost use Rattle.service.specs.Numbers.{BLOCK-WORDS};
+ghost use Rattle.service.specs.Desk.{codeFor, ranOf};
 ghost use Rattle.desk.specs.Bytes.{wordsOf};
 ghost use Rattle.desk.specs.RunCall.{REGS-BYTES, SMALL-WORDS};
 ghost use Rattle.desk.specs.LentCall.{lentCall};
-ghost use Rattle.desk.specs.Desk.{BLOCK-WORDS, codeFor, ranOf};
 ghost use Rattle.desk.specs.VansDesk.{wholeOf, ranBytes, serveBytes, bytesSize, bytesFault};
 ghost use Rattle.desk.specs.VansDeskLaws.{Ready, Fitting, openBytes};
 
@@ -236,8 +235,8 @@ fn size_fault(
 {
     let needed = eraser::needed(numbers);
     let are_whole = whole(code, heap, blocks, regs);
-    let right = right_sizes(heap / 4, blocks / 4, are_whole);
-    sizes(needed, code / 4, right, budget)
+    let right = service::right_sizes(heap / 4, blocks / 4, are_whole);
+    service::sizes(needed, code / 4, right, budget)
 }
 
 // Serves a listing's numbers: 35, 30 and 34, then the start and the run.

@@ -9,6 +9,7 @@ use listing::Taken;
 use listing::limits::BYTES;
 use listing::limits::TOO_LONG;
 use machine::numbers::BAD_SIZE;
+use service::numbers::DOES_NOT_FIT;
 ghost use mathlib.Core.Path.{_≡_};
 ghost use Prim.Native.Nat.{_≤_};
 ghost use lib.ListN.{length, take};
@@ -22,9 +23,6 @@ ghost use Rattle.desk.specs.ReadCall.{handedOf, vansReadOf};
 ghost use Rattle.desk.specs.CheckCall.{vansCheckOf};
 ghost use Rattle.desk.specs.EraseCall.{codeOut, erasedOut, vansEraseOf};
 ghost use Rattle.desk.specs.Tasks.{taskOf};
-
-// The refusal of a buffer that is too short.
-pub const DOES_NOT_FIT: u8 = 35;
 
 // The calls that a room can be made for.
 const READ: u32 = 0;

@@ -1,7 +1,6 @@
 // Rooms for the numbers of a packet. Each call on a packet reads it into a room that it owns; `task`
 // says which call it is.
 use crate::packet_calls::task_in;
-use listing::limits::BYTES;
 ghost use mathlib.Core.Path.{_≡_};
 ghost use Prim.Native.Nat.{_≤_};
 ghost use lib.ListN.{length};
@@ -43,12 +42,6 @@ fn long_room() -> [u32; LONG_PACKET]
     ensures { λ r. ⌜ length r ≡ 20480 ⌝ }
 {
     [0; LONG_PACKET]
-}
-
-pub fn longest_room() -> [u32; BYTES]
-    ensures { λ r. ⌜ length r ≡ BYTES ⌝ }
-{
-    [0; BYTES]
 }
 
 fn in_small(
@@ -127,7 +120,7 @@ fn in_longest(
     requires { ⌜ length (now packet) ≤ BYTES ⌝ }
     ensures { λ a. ⌜ lentCall a (now (out .exit)) (now (heap .exit)) (now (regs .exit)) ≡ taskOf task (now (packet .entry)) (now (out .entry)) (now (heap .entry)) (now (blocks .entry)) (now (regs .entry)) budget ⌝ }
 {
-    let mut room = longest_room();
+    let mut room = service::longest_room();
     task_in(task, &mut room, packet, out, heap, blocks, regs, budget)
 }
 

@@ -27,7 +27,7 @@ use Rattle.checker.specs.declared.packets.Checked.the-variants.{Accepted, Refus
 use Rattle.checker.specs.Walk.{isLabel, labelIn, blockAfter, dueRow, allFrom, isOpen, orElse, enterRow, premisesOf, walkFrom, walkOf}
 use Rattle.checker.specs.Check.{judgedOf, checkedBy, checkOf}
 use Rattle.eraser.specs.Erase.{keptIn, countBehind, passFrom, entered, noAddresses, addressesOf, wordFor, codeOf}
-use Rattle.desk.specs.Desk.{codeFor}
+use Rattle.service.specs.Desk.{codeFor}
 
 -- what a bench piece may claim
 pub data Piece : Type 0 where

@@ -21,7 +21,8 @@ use Rattle.checker.specs.Walk as walk
 use Rattle.checker.specs.Check as check
 use Rattle.eraser.specs.Erase as erase
 use Rattle.start.specs.Start as start
-use Rattle.desk.specs.Desk as desk
+use Rattle.service.specs.Numbers as sizes
+use Rattle.service.specs.Desk as desk
 use Rattle.sound.specs.Contexts as contexts
 use Rattle.sound.specs.Halting as halting
 use Rattle.sound.specs.Promise.{Lent, callOf, Served, Halts, StartAlike, tells-nothing}
@@ -54,7 +55,7 @@ unfolding choice.pick number.lastOf number.groupsOf limits.CODE-WORDS limits.HEA
     walk.isLabel walk.labelIn walk.blockAfter walk.dueRow walk.allFrom walk.isOpen walk.orElse walk.enterRow walk.premisesOf walk.walkFrom walk.walkOf
     check.judgedOf check.checkedBy check.checkOf erase.keptIn erase.neededOf erase.countBehind erase.passFrom erase.entered erase.noAddresses erase.addressesOf erase.codeOf
     start.rowsOf start.unless start.orElse start.firstOf start.rowsFrom start.isOfKind start.listedAt start.listedFirst start.registerFault start.rowsFault start.fieldsFault start.registersFault start.startIn
-    desk.BLOCK-WORDS desk.rightSizes desk.sizesOf desk.laterFault desk.codeFor desk.ranCall desk.serveBy desk.deskBy desk.deskOf
+    sizes.BLOCK-WORDS desk.rightSizes desk.sizesOf desk.laterFault desk.codeFor desk.ranCall desk.serveBy desk.deskBy desk.deskOf
     contexts.goesOn contexts.nowAfter contexts.nowFrom halting.placeFrom
 Opened = Unit
 

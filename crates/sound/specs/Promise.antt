@@ -1,4 +1,4 @@
--- The promise of the desk call (`deskOf` in desk/specs/Desk.antt), for any packet, block table, heap, registers and budget: an accepted routine never traps, and tells an observer nothing that he may not see.
+-- The promise of the desk call (`deskOf` in service/specs/Desk.antt), for any packet, block table, heap, registers and budget: an accepted routine never traps, and tells an observer nothing that he may not see.
 -- To believe it, read this file and what it names: Observer (what an observer sees), Halting (the halting context), Steps (the steps of a run), Desk, and what these name in turn. Sound says it over any order of levels; here levels are sets of compartments. K1 is an instance.
 use Prim.Native.Nat.{ℕ}
 use mathlib.Core.Path.{_≡_}
@@ -14,7 +14,7 @@ use Rattle.listing.specs.Packet.{numbersIn}
 use Rattle.checker.specs.declared.packets.Checked.the-variants.{Accepted}
 use Rattle.checker.specs.Check.{checkOf}
 use Rattle.start.specs.Start.{rowsOf, firstListed}
-use Rattle.desk.specs.Desk.{laterFault, codeFor, ranOf, DeskCall, deskOf}
+use Rattle.service.specs.Desk.{laterFault, codeFor, ranOf, DeskCall, deskOf}
 use Rattle.sound.specs.Halting.{HaltsAt}
 use Rattle.sound.specs.Observer.{Frame, StartsAgree, EndsAgree}
 use Rattle.sound.specs.Steps.{Steps}

@@ -21,8 +21,8 @@ use Rattle.eraser.specs.Erase.{neededOf}
 use Rattle.start.specs.Start.{rowsOf, firstListed, startOf}
 use Rattle.start.specs.ClearLaws.{else-clear}
 use Rattle.start.specs.PassingLaws.{clear-means}
-use Rattle.desk.specs.Desk.{rightSizes, sizesOf, laterFault, codeFor, ranOf, DeskCall, ranCall, serveBy, deskBy, deskOf}
-use Rattle.desk.specs.DeskLaws.{right-means, sizes-pass}
+use Rattle.service.specs.Desk.{rightSizes, sizesOf, laterFault, codeFor, ranOf, DeskCall, ranCall, serveBy, deskBy, deskOf}
+use Rattle.service.specs.DeskLaws.{right-means, sizes-pass}
 use Rattle.sound.specs.Halting.{HaltsAt}
 use Rattle.sound.specs.Observer.{Frame, StartsAgree, EndsAgree}
 use Rattle.sound.specs.ListingRun as listing

@@ -1,7 +1,7 @@
 -- `block_room` has room for the largest block table.
 use Prim.Native.Nat.{ℕ}
 use lib.ListN.{length-replicate}
-use Rattle.desk.specs.Desk.{BLOCK-WORDS}
+use Rattle.service.specs.Numbers.{BLOCK-WORDS}
 use Rattle.desk.proofs.desk_bytes.block_room.Statement.{statement}
 use Rattle.desk.proofs.desk_bytes.block_room.Tie as tie
 

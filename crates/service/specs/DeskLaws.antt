@@ -12,20 +12,20 @@ use Rattle.machine.specs.declared.table.State.{State}
 use Rattle.machine.specs.Step.{machineOf}
 use Rattle.machine.specs.Run.{Outcome, outcomeAt, runOf}
 use Rattle.listing.specs.Limits.{BYTES, TOO-LONG}
-use Rattle.listing.specs.Packet.{numbersIn}
+use Rattle.listing.specs.declared.reading.Taken.{Taken}
+use Rattle.listing.specs.Packet.{takenOf, numbersIn}
 use Rattle.listing.specs.Parts.{itemsIn}
 use Rattle.checker.specs.declared.packets.Checked.{Checked}
 use Rattle.checker.specs.declared.packets.Checked.the-variants.{Accepted, Refused, NoRoom}
-use Rattle.checker.specs.Check.{checkingOf, checkIn, checkOf}
+use Rattle.checker.specs.Check.{verdictIn, checkingOf, checkedBy, checkIn, checkOf}
 use Rattle.checker.specs.CheckLaws.{check-answer, check-count, check-numbers}
 use Rattle.eraser.specs.Erase.{neededOf, addressesOf, codeOf, Erased, erasedBy, eraseOf, eraseItems}
 use Rattle.eraser.specs.PassLaws.{code-length}
 use Rattle.start.specs.declared.faults.Fault.{Fault}
 use Rattle.start.specs.Start.{faultOf, passed, orElse, startOf}
-use Rattle.desk.specs.declared.desk_call.Service.{Service}
-use Rattle.desk.specs.PacketCall.{DOES-NOT-FIT}
-use Rattle.desk.specs.CallLaws.{too-long}
-use Rattle.desk.specs.Desk.{BLOCK-WORDS, rightSizes, sizesOf, laterFault, codeFor, ranOf, DeskCall, deskCall, serviceOf, refusedCall, ranCall, serveBy, deskBy, deskOf}
+use Rattle.service.specs.declared.serving.Service.{Service}
+use Rattle.service.specs.Numbers.{DOES-NOT-FIT, BLOCK-WORDS}
+use Rattle.service.specs.Desk.{rightSizes, sizesOf, laterFault, codeFor, ranOf, DeskCall, deskCall, serviceOf, refusedCall, ranCall, serveBy, deskBy, deskOf}
 
 -- sizes, and then the start
 module _ (ns : List ℕ) (code : ℕ) (whole : Bool) (heap blocks regs : List ℕ) (budget needed : ℕ) (right : Bool) (f : Fault)
@@ -129,6 +129,11 @@ pub serves-by : (l : DeskCall) (f g : Fault) (ns code heap regs : List ℕ) (bud
 serves-by l f g ns code heap regs budget e p = p ∙ ap (λ (x : Fault). serveBy x ns code heap regs budget) e
 
 pub ruleset servings = (refl, passes-fit, serves-by, serves, refuses)
+
+-- a packet over the limit
+pub too-long : (packet : List ℕ) → BYTES < length packet → Refused TOO-LONG 0 ≡ checkOf packet
+unfolding checkOf takenOf checkedBy
+too-long packet h = ap (λ (t : Taken). checkedBy t (verdictIn packet)) (is-less BYTES (length packet) _ _ _ h refl)
 
 -- the call, by what the checker says of the packet in a room that is large enough
 module _ (packet code heap blocks regs : List ℕ) (budget : ℕ) where

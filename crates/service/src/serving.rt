@@ -1,25 +1,19 @@
 // The desk call on lent words: packet, items, 35, 30, 34, rows, fields, registers, run.
-use crate::packet_calls::DOES_NOT_FIT;
-use crate::rooms::longest_room;
+use crate::numbers::DOES_NOT_FIT;
+use crate::sizing::right_sizes;
+use crate::sizing::sizes;
 use checker::Checked;
 use listing::limits::BYTES;
 use listing::limits::TOO_LONG;
-use machine::numbers::BAD_SIZE;
-use machine::numbers::BUDGET;
-use machine::numbers::BUDGET_TOO_LARGE;
-use machine::numbers::HEAP_WORDS;
 use start::Fault;
 ghost use mathlib.Core.Path.{_≡_};
 ghost use Prim.Native.Nat.{_≤_};
 ghost use mathlib.Core.Bool.{true};
-ghost use lib.ListN.{length};
+ghost use lib.ListN.{length, replicate};
+ghost use Rattle.listing.specs.Limits.{BYTES};
 ghost use Rattle.listing.specs.Parts.{itemsIn};
 ghost use Rattle.eraser.specs.Erase.{neededOf};
-ghost use Rattle.start.specs.Start.{startOf};
-ghost use Rattle.desk.specs.Desk.{rightSizes, sizesOf, laterFault, serveBy, deskCall, serviceOf, codeFor, ranOf, ranCall, deskOf};
-
-// The largest block table, in words.
-pub const BLOCK_WORDS: usize = 1024;
+ghost use Rattle.service.specs.Desk.{laterFault, serveBy, deskCall, serviceOf, codeFor, ranOf, ranCall, deskOf};
 
 // What the desk answers: a refusal's number or a run's status, the refusal's place, the count of words
 // acted on, and the registers.
@@ -28,47 +22,6 @@ pub struct Service {
     pub place: usize,
     pub count: u32,
     pub regs: [u32; 16],
-}
-
-// 30: a heap and a block table of so many words, and whether buffers of bytes are whole words.
-pub fn right_sizes(heap: usize, blocks: usize, whole: bool) -> bool
-    ensures { λ r. ⌜ r ≡ rightSizes heap blocks whole ⌝ }
-{
-    if HEAP_WORDS < heap {
-        return false;
-    }
-    if BLOCK_WORDS < blocks {
-        return false;
-    }
-    if blocks % 2 == 0 { whole } else { false }
-}
-
-// 35, 30 and 34: words needed and words of the code buffer, whether the sizes are right, and the budget.
-pub fn sizes(needed: u32, code: usize, right: bool, budget: u32) -> Fault
-    ensures { λ r. ⌜ r ≡ sizesOf needed code right budget ⌝ }
-{
-    if code < needed as usize {
-        return Fault {
-            number: DOES_NOT_FIT,
-            place: needed as usize,
-        };
-    }
-    if right {
-        if BUDGET < budget {
-            return Fault {
-                number: BUDGET_TOO_LARGE,
-                place: 0,
-            };
-        }
-        return Fault {
-            number: 0,
-            place: 0,
-        };
-    }
-    Fault {
-        number: BAD_SIZE,
-        place: 0,
-    }
 }
 
 // A refusal: the count is 0 and the registers are the start's.
@@ -142,6 +95,13 @@ fn serve_numbers(
         return run_numbers(numbers, code, heap, regs, budget);
     }
     refused(fault.number, fault.place, regs)
+}
+
+// Room for the numbers of the longest packet.
+pub fn longest_room() -> [u32; BYTES]
+    ensures { λ r. ⌜ r ≡ replicate BYTES 0 ⌝ }
+{
+    [0; BYTES]
 }
 
 // The desk call. Code and heap are written only after all checks, and a refusal changes neither.

@@ -15,12 +15,8 @@ use Rattle.checker.specs.Check.{checkOf}
 use Rattle.eraser.specs.Erase.{neededOf, addressesOf, codeOf}
 use Rattle.start.specs.declared.faults.Fault.{Fault}
 use Rattle.start.specs.Start.{faultOf, passed, orElse, startOf}
-use Rattle.desk.specs.declared.desk_call.Service.{Service}
-use Rattle.desk.specs.PacketCall.{DOES-NOT-FIT}
-
--- the largest block table, in words
-unfoldable pub BLOCK-WORDS : ℕ
-BLOCK-WORDS = 1024
+use Rattle.service.specs.declared.serving.Service.{Service}
+use Rattle.service.specs.Numbers.{DOES-NOT-FIT, BLOCK-WORDS}
 
 -- 30: a heap and a block table of so many words, and whether buffers of bytes are whole words
 unfoldable pub rightSizes : ℕ → ℕ → Bool → Bool

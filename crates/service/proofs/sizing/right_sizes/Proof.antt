@@ -1,10 +1,11 @@
 -- `right_sizes`: each branch is a case of the definition.
 use Rattle.choice.specs.Pick.{cases}
 use Rattle.machine.specs.Numbers.{HEAP-WORDS}
-use Rattle.desk.specs.Desk.{BLOCK-WORDS, rightSizes}
+use Rattle.service.specs.Numbers.{BLOCK-WORDS}
+use Rattle.service.specs.Desk.{rightSizes}
 use borrow.Author.Needs.{needs}
-use Rattle.desk.proofs.desk_call.right_sizes.Statement.{statement}
-use Rattle.desk.proofs.desk_call.right_sizes.Tie as tie
+use Rattle.service.proofs.sizing.right_sizes.Statement.{statement}
+use Rattle.service.proofs.sizing.right_sizes.Tie as tie
 
 pub right-sizes-spec : {M : Type 1} → statement M
 unfolding rightSizes HEAP-WORDS BLOCK-WORDS

@@ -1,8 +1,8 @@
 -- `run_numbers` erases into a buffer that the code fits, and runs it.
-use Rattle.desk.specs.DeskLaws.{runs}
+use Rattle.service.specs.DeskLaws.{runs}
 use borrow.Author.Needs.{needs}
-use Rattle.desk.proofs.desk_call.run_numbers.Statement.{statement}
-use Rattle.desk.proofs.desk_call.run_numbers.Tie as tie
+use Rattle.service.proofs.serving.run_numbers.Statement.{statement}
+use Rattle.service.proofs.serving.run_numbers.Tie as tie
 
 pub run-numbers-spec : {M : Type 1} → statement M
 run-numbers-spec =

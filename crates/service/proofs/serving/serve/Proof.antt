@@ -1,8 +1,8 @@
 -- `serve` goes by what the checker says: each arm is a law.
-use Rattle.desk.specs.DeskLaws.{desks}
+use Rattle.service.specs.DeskLaws.{desks}
 use borrow.Author.Needs.{needs}
-use Rattle.desk.proofs.desk_call.serve.Statement.{statement}
-use Rattle.desk.proofs.desk_call.serve.Tie as tie
+use Rattle.service.proofs.serving.serve.Statement.{statement}
+use Rattle.service.proofs.serving.serve.Tie as tie
 
 pub serve-spec : {M : Type 1} → statement M
 serve-spec =

@@ -1,8 +1,8 @@
 -- `later_fault`: sizes, and then the start.
-use Rattle.desk.specs.DeskLaws.{runs}
+use Rattle.service.specs.DeskLaws.{runs}
 use borrow.Author.Needs.{needs}
-use Rattle.desk.proofs.desk_call.later_fault.Statement.{statement}
-use Rattle.desk.proofs.desk_call.later_fault.Tie as tie
+use Rattle.service.proofs.serving.later_fault.Statement.{statement}
+use Rattle.service.proofs.serving.later_fault.Tie as tie
 
 pub later-fault-spec : {M : Type 1} → statement M
 later-fault-spec =

@@ -1,8 +1,8 @@
 -- `serve_numbers` refuses, or runs.
-use Rattle.desk.specs.DeskLaws.{servings}
+use Rattle.service.specs.DeskLaws.{servings}
 use borrow.Author.Needs.{needs}
-use Rattle.desk.proofs.desk_call.serve_numbers.Statement.{statement}
-use Rattle.desk.proofs.desk_call.serve_numbers.Tie as tie
+use Rattle.service.proofs.serving.serve_numbers.Statement.{statement}
+use Rattle.service.proofs.serving.serve_numbers.Tie as tie
 
 refused-requires : tie.Need-refused-requires
 refused-requires c κs = search needs
