@@ -17,7 +17,7 @@ pub fn any_rows(random: &mut Random, shapes: &[Types], first: &Types, least: usi
     let reached = reached(shapes, wanted);
     let mut blocks = reached.clone();
     if !reached.is_empty() {
-        let more = random.pick(&[0, 1, 2, 4, 12]);
+        let more = random.pick(&[0, 1, 2, 4, 12, 40]);
         let count = least.max(blocks.len() + more);
         blocks.resize_with(count, || random.pick(&reached));
     }

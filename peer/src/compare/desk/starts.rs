@@ -13,6 +13,9 @@ use crate::listing::Listing;
 use crate::run_call::HEAP_WORDS;
 use std::fmt;
 
+/// Few and many rows may be looked up in different ways.
+const MANY_ROWS: usize = 32;
+
 #[derive(Default)]
 pub struct Starts {
     several: Marks,
@@ -91,6 +94,7 @@ impl Starts {
         let is_16 = |row: &Row| fields(&listing.shapes[row[1] as usize]).len() == 16;
         self.good.add([
             ("no rows", rows.is_empty()),
+            ("many rows", rows.len() >= MANY_ROWS),
             ("a full table", rows.len() == TABLE_WORDS / 2),
             ("an empty heap", heap.is_empty()),
             ("a full heap", heap.len() == HEAP_WORDS),
@@ -108,9 +112,9 @@ impl Starts {
     pub fn assert_full(&self) {
         self.several.assert_full(4, 200);
         self.rows.assert_full(8, 30);
-        self.fields.assert_full(5, 50);
-        self.registers.assert_full(7, 30);
-        self.good.assert_full(12, 100);
+        self.fields.assert_full(7, 15);
+        self.registers.assert_full(9, 15);
+        self.good.assert_full(13, 100);
     }
 }
 
@@ -136,6 +140,8 @@ fn add_pointer(
         ("elsewhere in the heap", in_heap && !others && !in_own),
         ("past the heap", !in_heap),
         ("2^16 or 2^31 past a base", !in_heap && layout.allows(pointer, word & 0x7ffe_ffff)),
+        ("a block of another shape, of many", others && layout.rows.len() >= MANY_ROWS),
+        ("into a block of its shape, of many", in_own && layout.rows.len() >= MANY_ROWS),
     ]);
 }
 
