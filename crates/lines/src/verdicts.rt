@@ -16,7 +16,7 @@ ghost use Rattle.lines.specs.Put.{putOf};
 pub const LONGEST: usize = 36;
 
 // Room for the numbers of any packet.
-fn numbers_room() -> [u32; BYTES]
+pub fn numbers_room() -> [u32; BYTES]
     ensures { λ r. ⌜ length r ≡ BYTES ⌝ }
 {
     [0; BYTES]

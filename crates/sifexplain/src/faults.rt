@@ -1,78 +1,35 @@
 // A packet fault in words: the byte, the number that is due there, its range, and what was found.
-use crate::dues::say_due;
+use crate::dues::fault_part;
+use crate::dues::say_part;
 use crate::dues::say_range;
-use crate::out::say;
-use crate::out::say_end;
-use crate::out::say_found;
-use crate::out::say_number;
-use crate::out::say_size;
-use crate::out::say_wanted;
+use crate::out::say_piece;
 use crate::refusals::say_rule;
-use listing::Due;
-use listing::Wanted;
+use crate::stands::counted;
+use crate::stands::fault_stand;
 use listing::limits::BYTES;
 use listing::limits::ENDED;
 use listing::limits::LEFT_OVER;
 use listing::limits::MALFORMED;
 use listing::limits::TOO_LONG;
-use listing::next;
 use number::Found;
 
-// Where a number with a fault begins, and which number is due there.
-pub struct Stand {
-    pub at: usize,
-    pub wanted: Wanted,
-}
+// What may be found where a number is due.
+const END_WITHIN: u32 = 0;
 
-// Goes down the numbers that are taken. A packet has no more numbers than bytes.
-fn fault_stand(packet: &[u8]) -> Stand {
-    let mut wanted = Wanted::Edition;
-    let mut at = 0;
-    let mut left = packet.len();
-    while 0 < left {
-        match number::read(packet, at) {
-            Found::Number(v, behind) => match next(wanted, v) {
-                Due::Next(then) => {
-                    wanted = then;
-                    at = behind;
-                    left -= 1;
-                }
-                Due::End => {
-                    return Stand { at, wanted };
-                }
-                Due::Refused(_) => {
-                    return Stand { at, wanted };
-                }
-            },
-            Found::Ended => {
-                return Stand { at, wanted };
-            }
-            Found::Malformed(_) => {
-                return Stand { at, wanted };
-            }
-        }
-    }
-    Stand { at, wanted }
-}
+const END: u32 = 1;
 
-// A packet that ends before the number at a place does.
-fn say_ended(len: usize, at: usize) {
-    if at < len {
-        say(b"the packet's end within this number, at byte ");
-    } else {
-        say(b"the packet's end, at byte ");
-    }
-    say_size(len);
-}
+const ZERO_LAST: u32 = 2;
 
-fn byte_at(packet: &[u8], at: usize) -> u8 {
-    if at < packet.len() { packet[at] } else { 0 }
-}
+const TOO_LARGE: u32 = 3;
 
-// The last byte of the number at a place, or its fifth where that is not the last either.
+const NO_LAST: u32 = 4;
+
+const VALUE: u32 = 5;
+
+// The last byte of the number at a place, or 255 where it has none among five.
 fn last_byte(packet: &[u8], first: usize) -> u8 {
     let mut at = first;
-    let mut left: u32 = 4;
+    let mut left: u32 = 5;
     while 0 < left {
         if at < packet.len() {
             if packet[at] < 128 {
@@ -84,82 +41,96 @@ fn last_byte(packet: &[u8], first: usize) -> u8 {
             return 0;
         }
     }
-    byte_at(packet, at)
+    255
 }
 
-// A number that is not in its form.
-fn say_malformed(packet: &[u8], first: usize) {
-    let last = last_byte(packet, first);
-    if last == 0 {
-        say(b"a last byte of 0, which adds nothing");
-    } else if last < 128 {
-        say(b"a number of 4294967296 or more");
-    } else {
-        say(b"no last byte among five");
+// In what a number is not in its form.
+fn malformed(packet: &[u8], first: usize) -> u32 {
+    match last_byte(packet, first) {
+        0 => ZERO_LAST,
+        1..=127 => TOO_LARGE,
+        _ => NO_LAST,
     }
 }
 
-fn say_value(packet: &[u8], at: usize) {
+fn found(packet: &[u8], number: u8, at: usize) -> u32 {
+    match number {
+        ENDED => if at < packet.len() { END_WITHIN } else { END },
+        MALFORMED => malformed(packet, at),
+        _ => VALUE,
+    }
+}
+
+// The value of the number at a place, or where the packet ends before it does.
+fn value(packet: &[u8], at: usize) -> u32 {
     match number::read(packet, at) {
-        Found::Number(v, _) => say_number(v),
-        Found::Ended => (),
-        Found::Malformed(_) => (),
+        Found::Number(v, _) => v,
+        _ => counted(packet.len()),
     }
 }
 
 fn say_fault(packet: &[u8], number: u8, at: usize) {
-    match number {
-        ENDED => say_ended(packet.len(), at),
-        MALFORMED => say_malformed(packet, at),
-        _ => say_value(packet, at),
-    }
+    say_piece(
+        b".\nFound: the packet's end within this number, at byte #.\n|\
+        .\nFound: the packet's end, at byte #.\n|\
+        .\nFound: a last byte of 0, which adds nothing.\n|\
+        .\nFound: a number of 4294967296 or more.\n|\
+        .\nFound: no last byte among its first five.\n|\
+        .\nFound: #.\n",
+        found(packet, number, at),
+        value(packet, at),
+        0,
+        0,
+        0,
+    );
 }
 
 fn explain_number(packet: &[u8], numbers: &[u32], number: u8) {
     let s = fault_stand(packet);
     let at = s.at;
-    let wanted = s.wanted;
-    say(b"At byte ");
-    say_size(at);
-    say(b" of the packet: ");
-    say_due(wanted, numbers);
-    say(b"\n");
+    let p = fault_part(packet, numbers);
+    say_part(p, numbers, counted(at));
     say_rule(number);
-    say_wanted();
-    say_range(wanted);
-    say_found();
+    say_range(p);
     say_fault(packet, number, at);
-    say_end();
 }
 
-// Bytes behind the last item.
-fn explain_left_over(packet: &[u8], place: usize) {
-    say(b"At byte ");
-    say_size(place);
-    say(b" of the packet: its end\n");
+// The texts of a packet's size: of one that goes on behind its last item, and of one that is not even read.
+const LEFT: u32 = 0;
+
+const SIZES: u32 = 1;
+
+const WHOLE: u32 = 2;
+
+const MOST: u32 = 3;
+
+fn tell(text: u32, a: u32, b: u32) {
+    say_piece(
+        b"At byte # of the packet: its end|\
+        Wanted: # bytes.\nFound: # bytes.\n|\
+        The whole packet|\
+        Wanted: # bytes or fewer.\nFound: more.\n",
+        text,
+        a,
+        b,
+        0,
+        0,
+    );
+}
+
+fn explain_left_over(packet: &[u8], place: u32) {
+    tell(LEFT, place, 0);
     say_rule(LEFT_OVER);
-    say_wanted();
-    say_size(place);
-    say(b" bytes");
-    say_found();
-    say_size(packet.len());
-    say(b" bytes");
-    say_end();
+    tell(SIZES, place, counted(packet.len()));
 }
 
-// A packet of which the bytes are not even read.
 fn explain_too_long() {
-    say(b"The whole packet\n");
+    tell(WHOLE, 0, 0);
     say_rule(TOO_LONG);
-    say_wanted();
-    say_size(BYTES);
-    say(b" bytes or fewer");
-    say_found();
-    say(b"more");
-    say_end();
+    tell(MOST, BYTES as u32, 0);
 }
 
-pub(crate) fn explain_fault(packet: &[u8], numbers: &[u32], number: u8, place: usize) {
+pub(crate) fn explain_fault(packet: &[u8], numbers: &[u32], number: u8, place: u32) {
     match number {
         TOO_LONG => explain_too_long(),
         LEFT_OVER => explain_left_over(packet, place),

@@ -1,198 +1,149 @@
 // What was wanted of levels and what was found: refusal 15.
-use crate::out::say;
-use crate::out::say_end;
-use crate::out::say_found;
-use crate::out::say_wanted;
-use crate::parts::say_field;
+use crate::out::say_piece;
 use crate::parts::say_lacking;
-use crate::parts::say_level;
 use crate::places::label_place;
-use crate::places::pointed_place;
-use crate::registers::slot_in;
-use crate::words::say_label;
-use crate::words::say_register;
+use crate::places::shape_of;
+use crate::places::shape_place;
+use crate::uses::BLOCK;
+use crate::uses::REACHED;
+use crate::uses::REGISTER;
+use crate::uses::Uses;
+use crate::uses::WRITTEN;
 use checker::field_level;
 use levels::at_or_below;
 use levels::join;
-use listing::Item;
 use listing::number_at;
-use rules::Held;
+use rules::Slot;
+use rules::slot_at;
 
-// Where something shows: in a register; in the field of a shape, written or reached through a pointer; in
-// that a label is reached or pushed. A field goes by its offset and the pointer's kind.
-pub enum Target {
-    Register(u32),
-    Field(u32, u8),
-    Reached(u32, u8),
-    Block(u32),
-    Pushed(u32),
-}
-
-fn level_in(c: Held, r: u32) -> u32 {
-    let s = slot_in(c, r);
-    s.level as u32
-}
-
-fn say_target(target: Target) {
-    match target {
-        Target::Register(r) => say_register(r),
-        Target::Field(c, kind) => say_field(c, kind),
-        Target::Reached(c, kind) => say_field(c, kind),
-        Target::Block(l) => say_label(l),
-        Target::Pushed(l) => say_label(l),
-    }
-}
-
-// A label's level is its pc level.
-fn say_target_level(target: Target, to: u32) {
-    match target {
-        Target::Block(_) => say(b"pc "),
-        Target::Pushed(_) => say(b"pc "),
-        _ => (),
-    }
-    say_level(to);
+// A register or a label goes by x, a field by its offset x and its shape y.
+fn say_target(shows: u32, x: u32, y: u32) {
+    say_piece(
+        b"r#|field # of shape #|field # of shape #|L#|L#",
+        shows,
+        x,
+        y,
+        0,
+        0,
+    );
 }
 
 // What a level lets be seen at a target, and how more would show there.
-
-fn say_readable(to: u32, how: &[u8]) {
-    say(b" may be read at ");
-    say_level(to);
-    say(b" and up; ");
-    say(how);
+fn say_leak(from: u32, to: u32, shows: u32) {
+    say_piece(
+        b" may be read at level # and up; this item writes there what is known only at level #.\n|\
+        \x20may be read at level # and up; this item writes there what is known only at level #.\n|\
+        \x20may be read at level # and up; this item reaches it by what is known only at level #.\n|\
+        \x20may be seen to run at level # and up; this item goes there by what is known only at level #.\n|\
+        \x20may be seen to run at level # and up; this item has it run later by what is known only at level #.\n",
+        shows,
+        to,
+        from,
+        0,
+        0,
+    );
 }
 
-fn say_visible(to: u32, how: &[u8]) {
-    say(b" may be seen to run at ");
-    say_level(to);
-    say(b" and up; ");
-    say(how);
-}
+// The other texts of this file. Text 0 stands before a register or a field, and text 1 before a label, whose level
+// is its pc level.
+const LACKS: u32 = 2;
 
-fn say_leak(target: Target, to: u32) {
-    say_target(target);
-    match target {
-        Target::Register(_) => say_readable(to, b"this item writes there what"),
-        Target::Field(_, _) => say_readable(to, b"this item writes there what"),
-        Target::Reached(_, _) => say_readable(to, b"this item reaches it by what"),
-        Target::Block(_) => say_visible(to, b"this item goes there by what"),
-        Target::Pushed(_) => say_visible(to, b"this item has it run later by what"),
-    }
-    say(b" is known only at ");
+const THAT_IS: u32 = 3;
+
+const PC: u32 = 4;
+
+const JOINED: u32 = 5;
+
+const AND: u32 = 6;
+
+const FIELD: u32 = 7;
+
+fn tell(text: u32, a: u32, b: u32, c: u32, d: u32) {
+    say_piece(
+        b" at or below level # of |\
+        \x20at or below pc level # of |\
+        .\nFound: level # lacks|\
+        .\nThat is: |\
+        Wanted: pc level #|\
+        Wanted: level #, joined from pc level # and r# at level #,|\
+        \x20and r# at level #,|\
+        Wanted: level # of field # of shape #",
+        text,
+        a,
+        b,
+        c,
+        d,
+    );
 }
 
 // The end of a finding: of a level that may show only at a target's.
-fn say_flow(from: u32, to: u32, target: Target) {
-    say(b" at or below ");
-    say_target_level(target, to);
-    say(b" of ");
-    say_target(target);
-    say_found();
-    say_level(to);
-    say(b" lacks");
+fn say_flow(from: u32, to: u32, shows: u32, x: u32, y: u32) {
+    tell((BLOCK <= shows) as u32, to, 0, 0, 0);
+    say_target(shows, x, y);
+    tell(LACKS, to, 0, 0, 0);
     say_lacking(from, to);
-    say_end();
-    say(b"That is: ");
-    say_leak(target, to);
-    say_level(from);
-    say_end();
+    tell(THAT_IS, 0, 0, 0, 0);
+    say_target(shows, x, y);
+    say_leak(from, to, shows);
 }
 
-// The pc level alone.
-fn say_pc(c: Held) {
-    say_wanted();
-    say(b"pc ");
-    say_level(c.level);
+fn level_in(registers: [Slot; 16], r: u32) -> u32 {
+    let s = slot_at(registers, r);
+    s.level as u32
 }
 
-// A level joined from the pc level and a register's, and one more register's.
-
-fn say_joined(c: Held, from: u32, rs: u32) {
-    say_wanted();
-    say_level(from);
-    say(b", joined from pc ");
-    say_level(c.level);
-    say_source(c, rs);
+// The level of what an item does, joined from the pc level and its sources'.
+fn level_from(pc: u32, registers: [Slot; 16], u: Uses) -> u32 {
+    join(
+        join(pc, level_in(registers, u.through)),
+        level_in(registers, u.rt),
+    )
 }
 
-fn say_source(c: Held, r: u32) {
-    say(b" and ");
-    say_register(r);
-    say(b" at ");
-    say_level(level_in(c, r));
-    say(b",");
-}
-
-fn say_compute(c: Held, rd: u32, rs: u32, rt: u32) {
-    let from = join(join(c.level, level_in(c, rs)), level_in(c, rt));
-    say_joined(c, from, rs);
-    say_source(c, rt);
-    say_flow(from, level_in(c, rd), Target::Register(rd));
-}
-
-fn say_compute_immediate(c: Held, rd: u32, rs: u32) {
-    let from = join(c.level, level_in(c, rs));
-    say_joined(c, from, rs);
-    say_flow(from, level_in(c, rd), Target::Register(rd));
-}
-
-// A load shows by which pointer a field is reached, and then the field in the register.
-fn say_load(c: Held, rd: u32, rs: u32, field: u32, numbers: &[u32]) {
-    let s = slot_in(c, rs);
-    let kind = s.kind;
-    let through = join(c.level, level_in(c, rs));
-    let level = field_level(numbers, pointed_place(numbers, kind), field);
-    if at_or_below(through, level) {
-        say_wanted();
-        say_level(level);
-        say(b" of ");
-        say_field(field, kind);
-        say_flow(level, level_in(c, rd), Target::Register(rd));
+fn say_sources(pc: u32, registers: [Slot; 16], u: Uses, from: u32) {
+    let first = level_in(registers, u.through);
+    if u.sources == 0 {
+        tell(PC, pc, 0, 0, 0);
         return;
     }
-    say_joined(c, through, rs);
-    say_flow(through, level, Target::Reached(field, kind));
+    tell(JOINED, from, pc, u.through, first);
+    if u.sources == 2 {
+        tell(AND, u.rt, level_in(registers, u.rt), 0, 0);
+    }
 }
 
-fn say_store(c: Held, rd: u32, field: u32, numbers: &[u32]) {
-    let d = slot_in(c, rd);
-    let kind = d.kind;
-    let from = join(c.level, level_in(c, rd));
-    say_joined(c, from, rd);
-    let to = field_level(numbers, pointed_place(numbers, kind), field);
-    say_flow(from, to, Target::Field(field, kind));
+// A load or store shows by which pointer a field is reached, and a load then the field in the register.
+fn say_field_flow(pc: u32, registers: [Slot; 16], u: Uses, from: u32, numbers: &[u32]) {
+    let s = slot_at(registers, u.through);
+    let shape = shape_of(s.kind);
+    let level = field_level(numbers, shape_place(numbers, shape), u.field);
+    if at_or_below(from, level) {
+        tell(FIELD, level, u.field, shape, 0);
+        say_flow(level, level_in(registers, u.rd), REGISTER, u.rd, 0);
+    } else {
+        say_sources(pc, registers, u, from);
+        say_flow(from, level, u.shows, u.field, shape);
+    }
 }
 
-fn pc_of(numbers: &[u32], l: u32) -> u32 {
-    number_at(numbers, label_place(numbers, l) as usize)
+fn say_register_flow(pc: u32, registers: [Slot; 16], u: Uses, from: u32) {
+    say_sources(pc, registers, u, from);
+    say_flow(from, level_in(registers, u.rd), REGISTER, u.rd, 0);
 }
 
-fn say_bnz(c: Held, rs: u32, l: u32, numbers: &[u32]) {
-    let from = join(c.level, level_in(c, rs));
-    say_joined(c, from, rs);
-    say_flow(from, pc_of(numbers, l), Target::Block(l));
+fn say_label_flow(pc: u32, registers: [Slot; 16], u: Uses, from: u32, numbers: &[u32]) {
+    let to = number_at(numbers, label_place(numbers, u.label) as usize);
+    say_sources(pc, registers, u, from);
+    say_flow(from, to, u.shows, u.label, 0);
 }
 
-fn say_jump(c: Held, l: u32, numbers: &[u32]) {
-    say_pc(c);
-    say_flow(c.level, pc_of(numbers, l), Target::Block(l));
-}
-
-fn say_push(c: Held, l: u32, numbers: &[u32]) {
-    say_pc(c);
-    say_flow(c.level, pc_of(numbers, l), Target::Pushed(l));
-}
-
-pub(crate) fn say_level_rule(c: Held, item: Item, numbers: &[u32]) {
-    match item {
-        Item::Jmp(l) => say_jump(c, l, numbers),
-        Item::Bnz(rs, l) => say_bnz(c, rs, l, numbers),
-        Item::Load(rd, rs, field) => say_load(c, rd, rs, field, numbers),
-        Item::Store(rd, field, _) => say_store(c, rd, field, numbers),
-        Item::Compute(_, rd, rs, rt) => say_compute(c, rd, rs, rt),
-        Item::ComputeImmediate(_, rd, rs, _) => say_compute_immediate(c, rd, rs),
-        Item::Cpush(l) => say_push(c, l, numbers),
-        Item::Label(l) => say_jump(c, l, numbers),
-        _ => (),
+pub(crate) fn say_level_rule(pc: u32, registers: [Slot; 16], u: Uses, numbers: &[u32]) {
+    let from = level_from(pc, registers, u);
+    let shows = u.shows;
+    match shows {
+        REGISTER => say_register_flow(pc, registers, u, from),
+        WRITTEN => say_field_flow(pc, registers, u, from, numbers),
+        REACHED => say_field_flow(pc, registers, u, from, numbers),
+        _ => say_label_flow(pc, registers, u, from, numbers),
     }
 }

@@ -13,36 +13,26 @@ mod places;
 mod refusals;
 mod registers;
 mod stacks;
+mod stands;
+mod uses;
 mod walked;
 mod words;
 
 use crate::faults::explain_fault;
 use crate::items::explain_item;
+use crate::stands::counted;
 use checker::Checked;
+use intake::answer;
 use intake::packet_room;
-use intake::read_packet;
-use libc::STDERR_FILENO;
-use libc::STDOUT_FILENO;
-use lines::LONGEST;
-use listing::limits::BYTES;
+use lines::numbers_room;
 use listing::limits::TOO_LONG;
-ghost use mathlib.Core.Path.{_≡_};
-ghost use lib.ListN.{length};
-ghost use Rattle.listing.specs.Limits.{BYTES};
-
-// Room for the numbers of any packet.
-fn numbers_room() -> [u32; BYTES]
-    ensures { λ r. ⌜ length r ≡ BYTES ⌝ }
-{
-    [0; BYTES]
-}
 
 // The reader's refusals have numbers up to 6, and bytes as places; the checker's have items.
-fn explain_refusal(packet: &[u8], numbers: &[u32], number: u8, place: usize) {
+fn explain_refusal(packet: &[u8], numbers: &[u32], number: u8, place: u32) {
     if number <= TOO_LONG {
         explain_fault(packet, numbers, number, place);
-    } else if place < BYTES {
-        explain_item(packet, numbers, number, place as u32);
+    } else {
+        explain_item(packet, numbers, number, place);
     }
 }
 
@@ -50,33 +40,17 @@ fn explain(packet: &[u8]) {
     let mut room = numbers_room();
     match checker::check(packet, &mut room) {
         Checked::Accepted(_) => (),
-        Checked::Refused(number, place) => explain_refusal(packet, &room, number, place),
+        Checked::Refused(number, place) => explain_refusal(packet, &room, number, counted(place)),
         Checked::NoRoom => (),
     }
 }
 
-fn complain(text: &[u8]) {
-    io::write_all(STDERR_FILENO, text);
-}
-
-// Prints the proved line, and behind it the explanation.
-fn answer(packet: &[u8]) {
-    let mut out = [0u8; LONGEST];
-    let n = lines::line(packet, &mut out);
-    if io::write_all(STDOUT_FILENO, &out[..n]) {
-        explain(packet);
-        return;
-    }
-    complain(b"sifexplain: standard output cannot be written\n");
-}
-
 fn main() {
     let mut packet = packet_room();
-    let input = read_packet(&mut packet);
+    let input = answer(&mut packet, b"sifexplain");
     if input.failed {
-        complain(b"sifexplain: standard input cannot be read\n");
         return;
     }
     let n = input.count;
-    answer(&packet[..n]);
+    explain(&packet[..n]);
 }

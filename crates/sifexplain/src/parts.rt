@@ -1,24 +1,55 @@
-// Levels, kinds, fields, stacks and contexts in words.
-use crate::out::say;
+// Registers, stacks, contexts and lacking compartments in words.
 use crate::out::say_end;
-use crate::out::say_number;
-use crate::words::say_label;
-use crate::words::say_register;
+use crate::out::say_piece;
+use crate::places::shape_of;
 use levels::at_or_below;
-use rules::Held;
 use rules::Slot;
 use rules::Stack;
 use rules::depth;
 use rules::slot_at;
 
-pub(crate) fn say_level(level: u32) {
-    say(b"level ");
-    say_number(level);
-}
+// The texts of this file. Text 0 is an empty stack, and text 1 begins another. A register is said behind a comma,
+// as wanted or as found.
+const UNLISTED: u32 = 2;
 
-fn say_compartment(weight: u32) {
-    say(b" ");
-    say_number(weight);
+const INTEGER: u32 = 3;
+
+const POINTER: u32 = 4;
+
+const BESIDE: u32 = 5;
+
+pub(crate) const WANTED: u32 = 6;
+
+pub(crate) const FOUND: u32 = 7;
+
+const COMPARTMENT: u32 = 8;
+
+const LABEL: u32 = 9;
+
+const HERE: u32 = 10;
+
+const STOP: u32 = 11;
+
+fn tell(text: u32, a: u32, b: u32, c: u32) {
+    say_piece(
+        b"stack empty|\
+        stack|\
+        r# not listed|\
+        r# integer at level #|\
+        r# pointer to shape # at level #|\
+        , |\
+        Wanted: |\
+        .\nFound: |\
+        \x20#|\
+        \x20L#|\
+        \nHere: pc level #, |\
+        .",
+        text,
+        a,
+        b,
+        c,
+        0,
+    );
 }
 
 // The compartments of `from` that `to` has not, by their weights in a level's number.
@@ -27,76 +58,52 @@ pub(crate) fn say_lacking(from: u32, to: u32) {
     while weight < 256 {
         if at_or_below(weight, from) {
             if !at_or_below(weight, to) {
-                say_compartment(weight);
+                tell(COMPARTMENT, weight, 0, 0);
             }
         }
         weight *= 2;
     }
 }
 
-fn say_kind(kind: u8) {
-    if kind == 0 {
-        say(b"integer");
-    } else {
-        say(b"pointer to shape ");
-        say_number(kind as u32 - 1);
-    }
-}
-
-// What is said of a register.
-pub(crate) fn say_slot(s: Slot) {
-    if s.listed {
-        say_kind(s.kind);
-        say(b" at ");
-        say_level(s.level as u32);
-    } else {
-        say(b"not listed");
-    }
-}
-
 // A register, and what is said of it.
-pub(crate) fn say_typed(r: u32, s: Slot) {
-    say_register(r);
-    say(b" ");
-    say_slot(s);
+pub(crate) fn say_typed(before: u32, r: u32, s: Slot) {
+    let level = s.level as u32;
+    tell(before, 0, 0, 0);
+    if s.listed {
+        if s.kind == 0 {
+            tell(INTEGER, r, level, 0);
+        } else {
+            tell(POINTER, r, shape_of(s.kind), level);
+        }
+    } else {
+        tell(UNLISTED, r, 0, 0);
+    }
 }
 
-// The field c of the shape that a pointer of a kind goes to.
-pub(crate) fn say_field(c: u32, kind: u8) {
-    say(b"field ");
-    say_number(c);
-    say(b" of shape ");
-    say_number(if kind == 0 { 0 } else { kind as u32 - 1 });
-}
-
-fn say_next_label(l: u32) {
-    say(b" ");
-    say_label(l);
+// The same as a finding.
+pub(crate) fn say_found_typed(r: u32, s: Slot) {
+    say_typed(FOUND, r, s);
+    say_end();
 }
 
 fn say_labels(cells: [u32; 16], top: usize) {
     let mut i = top;
     while i < 16 {
-        say_next_label(cells[i]);
+        tell(LABEL, cells[i], 0, 0);
         i += 1;
     }
 }
 
 // A stack, top first.
 pub(crate) fn say_stack(s: Stack) {
-    say(b"stack");
-    if depth(s) == 0 {
-        say(b" empty");
-    } else {
-        let cells = s.cells;
-        say_labels(cells, s.top);
-    }
+    let cells = s.cells;
+    tell((0 < depth(s)) as u32, 0, 0, 0);
+    say_labels(cells, s.top);
 }
 
 fn say_listed(r: u32, s: Slot) {
     if s.listed {
-        say(b", ");
-        say_typed(r, s);
+        say_typed(BESIDE, r, s);
     }
 }
 
@@ -108,14 +115,10 @@ fn say_registers(registers: [Slot; 16]) {
     }
 }
 
-// The context in which an item stands.
-pub(crate) fn say_context(c: Held) {
-    let stack = c.stack;
-    let registers = c.registers;
-    say(b"Here: pc ");
-    say_level(c.level);
-    say(b", ");
+// The context in which an item stands, on a line behind the item's.
+pub(crate) fn say_context(pc: u32, stack: Stack, registers: [Slot; 16]) {
+    tell(HERE, pc, 0, 0);
     say_stack(stack);
     say_registers(registers);
-    say_end();
+    tell(STOP, 0, 0, 0);
 }

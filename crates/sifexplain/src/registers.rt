@@ -1,161 +1,121 @@
 // What was wanted of a register and what was found: refusals 13, 14, 16, 18, 19 and 23.
-use crate::out::say;
-use crate::out::say_end;
-use crate::out::say_found;
-use crate::out::say_number;
-use crate::out::say_wanted;
-use crate::parts::say_field;
+use crate::out::say_piece;
+use crate::parts::WANTED;
+use crate::parts::say_found_typed;
 use crate::parts::say_typed;
 use crate::places::label_place;
-use crate::places::pointed_place;
-use crate::words::say_label;
-use crate::words::say_register;
+use crate::places::shape_of;
+use crate::places::shape_place;
+use crate::uses::REACHED;
+use crate::uses::Uses;
+use crate::uses::WRITTEN;
 use checker::field_count;
 use checker::field_kind;
 use checker::field_level;
-use listing::Item;
-use rules::Held;
+use listing::at_most;
+use listing::limits::TOP_LEVEL;
 use rules::Slot;
 use rules::enter;
 use rules::is_exactly;
 use rules::slot_at;
 
-// What a context says of a register.
-pub(crate) fn slot_in(c: Held, r: u32) -> Slot {
-    let registers = c.registers;
-    slot_at(registers, r)
+// The texts of this file. Text 0 stands where an integer was found, and text 1 where a pointer was.
+const LISTED: u32 = 2;
+
+const FIELDS: u32 = 3;
+
+const AS_FIELD: u32 = 4;
+
+const AS_LISTED: u32 = 5;
+
+const NOT_R0: u32 = 6;
+
+fn tell(text: u32, a: u32, b: u32, c: u32) {
+    say_piece(
+        b"Wanted: a pointer in r#|\
+        Wanted: an integer in r#|\
+        Wanted: r# listed|\
+        Wanted: a field below #.\nFound: field # of shape #.\n|\
+        , as field # of shape #|\
+        , as L# lists it|\
+        Wanted: r1 to r15 as the register that is written.\nFound: r0.\n",
+        text,
+        a,
+        b,
+        c,
+        0,
+    );
 }
 
-// A register as it is found.
-fn say_as_found(c: Held, r: u32) {
-    say_found();
-    say_typed(r, slot_in(c, r));
-    say_end();
-}
-
-// The first of three registers that is not listed, in the order in which they are asked for.
-fn first_unlisted(c: Held, a: u32, b: u32, last: u32) -> u32 {
-    let first = slot_in(c, a);
-    if first.listed {
-        let second = slot_in(c, b);
-        if second.listed {
-            return last;
+// The first register that is not listed, in the order in which they are asked for.
+fn first_unlisted(registers: [Slot; 16], u: Uses) -> u32 {
+    let d = slot_at(registers, u.rd);
+    let s = slot_at(registers, u.rs);
+    if d.listed {
+        if s.listed {
+            return u.rt;
         }
-        return b;
+        return u.rs;
     }
-    a
+    u.rd
 }
 
-fn unlisted(c: Held, item: Item) -> u32 {
-    match item {
-        Item::Bnz(rs, _) => rs,
-        Item::Load(rd, rs, _) => first_unlisted(c, rd, rs, rs),
-        Item::Store(rd, _, rs) => first_unlisted(c, rd, rs, rs),
-        Item::Compute(_, rd, rs, rt) => first_unlisted(c, rd, rs, rt),
-        Item::ComputeImmediate(_, rd, rs, _) => first_unlisted(c, rd, rs, rs),
-        _ => 0,
-    }
+pub(crate) fn say_unlisted(registers: [Slot; 16], u: Uses) {
+    let r = first_unlisted(registers, u);
+    tell(LISTED, r, 0, 0);
+    say_found_typed(r, slot_at(registers, r));
 }
 
-pub(crate) fn say_unlisted(c: Held, item: Item) {
-    let r = unlisted(c, item);
-    say_wanted();
-    say_register(r);
-    say(b" listed");
-    say_as_found(c, r);
-}
-
-// The register that an item wants to be an integer and that is none, of two.
-fn first_pointer(c: Held, a: u32, b: u32) -> u32 {
-    let s = slot_in(c, a);
-    if s.kind == 0 { b } else { a }
-}
-
-fn say_sort(c: Held, sort: &[u8], r: u32) {
-    say_wanted();
-    say(sort);
-    say(b" in ");
-    say_register(r);
-    say_as_found(c, r);
-}
-
-fn say_integer_wanted(c: Held, r: u32) {
-    say_sort(c, b"an integer", r);
-}
-
-fn say_pointer_wanted(c: Held, r: u32) {
-    say_sort(c, b"a pointer", r);
-}
-
-pub(crate) fn say_wrong_sort(c: Held, item: Item) {
-    match item {
-        Item::Bnz(rs, _) => say_integer_wanted(c, rs),
-        Item::Load(_, rs, _) => say_pointer_wanted(c, rs),
-        Item::Store(rd, _, _) => say_pointer_wanted(c, rd),
-        Item::Compute(_, _, rs, rt) => say_integer_wanted(c, first_pointer(c, rs, rt)),
-        Item::ComputeImmediate(_, _, rs, _) => say_integer_wanted(c, rs),
-        _ => (),
+// The register of the other sort than is wanted: the pointer's of a load or store, or else the first that should
+// be an integer and is none.
+fn other_sort(registers: [Slot; 16], u: Uses) -> u32 {
+    let s = slot_at(registers, u.rs);
+    let shows = u.shows;
+    match shows {
+        WRITTEN => u.through,
+        REACHED => u.through,
+        _ => if s.kind == 0 { u.rt } else { u.rs },
     }
 }
 
-fn say_fields(kind: u8, field: u32, numbers: &[u32]) {
-    say_wanted();
-    say(b"a field below ");
-    say_number(field_count(numbers, pointed_place(numbers, kind)));
-    say_found();
-    say_field(field, kind);
-    say_end();
+pub(crate) fn say_wrong_sort(registers: [Slot; 16], u: Uses) {
+    let r = other_sort(registers, u);
+    let s = slot_at(registers, r);
+    tell((0 < s.kind) as u32, r, 0, 0);
+    say_found_typed(r, s);
 }
 
-pub(crate) fn say_no_field(c: Held, item: Item, numbers: &[u32]) {
-    match item {
-        Item::Load(_, rs, field) => {
-            let s = slot_in(c, rs);
-            say_fields(s.kind, field, numbers);
-        }
-        Item::Store(rd, field, _) => {
-            let d = slot_in(c, rd);
-            say_fields(d.kind, field, numbers);
-        }
-        _ => (),
-    }
+pub(crate) fn say_no_field(registers: [Slot; 16], u: Uses, numbers: &[u32]) {
+    let s = slot_at(registers, u.through);
+    let shape = shape_of(s.kind);
+    tell(
+        FIELDS,
+        field_count(numbers, shape_place(numbers, shape)),
+        u.field,
+        shape,
+    );
 }
 
 // A field's kind and level, as a register would be listed with them.
-fn field_slot(kind: u8, field: u32, numbers: &[u32]) -> Slot {
-    let place = pointed_place(numbers, kind);
-    let level = field_level(numbers, place, field);
+fn field_slot(shape: u32, field: u32, numbers: &[u32]) -> Slot {
+    let place = shape_place(numbers, shape);
     Slot {
         listed: true,
         kind: field_kind(numbers, place, field),
-        level: if level < 256 { level as u8 } else { 0 },
+        level: at_most(TOP_LEVEL, field_level(numbers, place, field)) as u8,
     }
 }
 
-fn say_stored(c: Held, kind: u8, field: u32, rs: u32, numbers: &[u32]) {
-    say_wanted();
-    say_typed(rs, field_slot(kind, field, numbers));
-    say(b", as ");
-    say_field(field, kind);
-    say_as_found(c, rs);
-}
-
-pub(crate) fn say_not_the_field(c: Held, item: Item, numbers: &[u32]) {
-    match item {
-        Item::Store(rd, field, rs) => {
-            let d = slot_in(c, rd);
-            say_stored(c, d.kind, field, rs, numbers);
-        }
-        _ => (),
-    }
+pub(crate) fn say_not_the_field(registers: [Slot; 16], u: Uses, numbers: &[u32]) {
+    let d = slot_at(registers, u.through);
+    let shape = shape_of(d.kind);
+    say_typed(WANTED, u.rs, field_slot(shape, u.field, numbers));
+    tell(AS_FIELD, u.field, shape, 0);
+    say_found_typed(u.rs, slot_at(registers, u.rs));
 }
 
 pub(crate) fn say_writes_r0() {
-    say_wanted();
-    say(b"r1 to r15 as the register that is written");
-    say_found();
-    say_register(0);
-    say_end();
+    tell(NOT_R0, 0, 0, 0);
 }
 
 // The first register that a label lists and that does not come with its kind and level: there is one, so it is
@@ -178,15 +138,11 @@ fn first_unmet(listed: [Slot; 16], now: [Slot; 16]) -> u32 {
 }
 
 // A jump to a label, or a fall into it.
-pub(crate) fn say_not_met(c: Held, l: u32, numbers: &[u32]) {
+pub(crate) fn say_not_met(now: [Slot; 16], l: u32, numbers: &[u32]) {
     let target = enter(numbers, label_place(numbers, l));
     let listed = target.registers;
-    let now = c.registers;
     let r = first_unmet(listed, now);
-    say_wanted();
-    say_typed(r, slot_at(listed, r));
-    say(b", as ");
-    say_label(l);
-    say(b" lists it");
-    say_as_found(c, r);
+    say_typed(WANTED, r, slot_at(listed, r));
+    tell(AS_LISTED, l, 0, 0);
+    say_found_typed(r, slot_at(now, r));
 }

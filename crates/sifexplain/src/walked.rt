@@ -1,16 +1,21 @@
 // The context in which an item stands: what the checker's walk has when it comes there. The verdict does not
 // depend on it; it is only told.
+use crate::places::Row;
+use crate::places::behind;
 use crate::places::label_place;
-use crate::places::pointed_place;
+use crate::places::shape_of;
+use crate::places::shape_place;
+use crate::uses::BLOCK;
+use crate::uses::PUSHED;
+use crate::uses::REACHED;
+use crate::uses::REGISTER;
+use crate::uses::Uses;
+use crate::uses::WRITTEN;
+use crate::uses::uses_at;
 use checker::changed;
 use checker::field_kind;
 use checker::raised;
-use listing::Item;
-use listing::at_most;
-use listing::behind_item;
-use listing::item_at;
 use listing::items_place;
-use listing::limits::ITEMS;
 use rules::Held;
 use rules::Stack;
 use rules::enter;
@@ -46,23 +51,29 @@ fn loaded(c: Held, rd: u32, rs: u32, field: u32, numbers: &[u32]) -> Held {
     changed(
         c,
         rd,
-        field_kind(numbers, pointed_place(numbers, s.kind), field),
+        field_kind(numbers, shape_place(numbers, shape_of(s.kind)), field),
     )
 }
 
-// The context behind an item that is not refused.
-fn context_behind(c: Held, item: Item, numbers: &[u32]) -> Held {
-    match item {
-        Item::Halt => c,
-        Item::Jmp(_) => c,
-        Item::Bnz(rs, _) => raised(c, rs),
-        Item::Load(rd, rs, field) => loaded(c, rd, rs, field, numbers),
-        Item::Store(_, _, _) => c,
-        Item::Compute(_, rd, _, _) => changed(c, rd, 0),
-        Item::ComputeImmediate(_, rd, _, _) => changed(c, rd, 0),
-        Item::Cpush(l) => pushed(c, l),
-        Item::Cjmp(_) => c,
-        Item::Label(l) => enter(numbers, label_place(numbers, l)),
+// The context behind bnz, whose register raises the pc level, and behind a label.
+fn at_label(c: Held, u: Uses, numbers: &[u32]) -> Held {
+    if u.sources == 0 {
+        enter(numbers, label_place(numbers, u.label))
+    } else {
+        raised(c, u.rs)
+    }
+}
+
+// The context behind an item that is not refused. Behind a jmp it does not matter: only a label can come there.
+fn context_behind(c: Held, u: Uses, numbers: &[u32]) -> Held {
+    let shows = u.shows;
+    match shows {
+        REGISTER => changed(c, u.rd, 0),
+        WRITTEN => c,
+        REACHED => loaded(c, u.rd, u.rs, u.field, numbers),
+        BLOCK => at_label(c, u, numbers),
+        PUSHED => pushed(c, u.label),
+        _ => c,
     }
 }
 
@@ -70,11 +81,11 @@ fn context_behind(c: Held, item: Item, numbers: &[u32]) -> Held {
 pub(crate) fn context_at(numbers: &[u32], i: u32) -> Held {
     let mut held = nothing();
     let mut at = items_place(numbers) + 1;
-    let mut left = at_most(ITEMS, i);
+    let mut left = i;
     while 0 < left {
-        let next = context_behind(held, item_at(numbers, at), numbers);
+        let next = context_behind(held, uses_at(numbers, at), numbers);
         held = next;
-        at = behind_item(numbers, at);
+        at = behind(numbers, Row::Items, at);
         left -= 1;
     }
     held

@@ -1,4 +1,4 @@
--- `last_byte` is safe and ends: it looks at five bytes at most.
+-- `last_byte` is safe and ends: each turn leaves one byte less of five.
 use borrow.Author.Needs.{needs}
 use Rattle.sifexplain.proofs.faults.last_byte.Statement.{statement}
 use Rattle.sifexplain.proofs.faults.last_byte.Tie as tie
@@ -24,5 +24,4 @@ last-byte-spec =
     (λ c. search needs)
     (λ c. search needs)
     (λ c. search needs)
-    (λ c κs. search needs)
     (λ c. search needs))

@@ -1,4 +1,4 @@
--- `say_labels` is safe and ends: it goes up to the last cell.
+-- `say_labels` is safe and ends: each turn leaves one cell less.
 use Prim.Native.Nat.{_-_}
 use borrow.Author.Needs.{needs}
 use Rattle.sifexplain.proofs.parts.say_labels.Statement.{statement}

@@ -1,11 +1,11 @@
--- `say_registers` is safe and ends: it goes up to r15.
-use Prim.Native.Nat.{_-_}
+-- `say_registers` is safe and ends: each turn leaves one register less.
+use Prim.Native.Nat.{_-_, _≤_}
 use borrow.Author.Needs.{needs}
 use Rattle.sifexplain.proofs.parts.say_registers.Statement.{statement}
 use Rattle.sifexplain.proofs.parts.say_registers.Tie as tie
 
 abbrev Inv-loop : tie.InvT-loop
-Inv-loop registers r₀ r = Unit
+Inv-loop registers r₀ r = r ≤ 16
 
 abbrev μ-loop : tie.MeasureT-loop
 μ-loop registers r₀ r = 16 - r

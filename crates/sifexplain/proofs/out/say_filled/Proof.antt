@@ -1,16 +1,18 @@
--- `fault_stand` is safe and ends: each turn takes one of at most as many numbers as there are bytes.
+-- `say_filled` is safe and ends: behind each number sign there is less of the text.
+use Prim.Native.Nat.{_≤_}
+use lib.ListN.{length}
 use borrow.Author.Needs.{needs}
-use Rattle.sifexplain.proofs.faults.fault_stand.Statement.{statement}
-use Rattle.sifexplain.proofs.faults.fault_stand.Tie as tie
+use Rattle.sifexplain.proofs.out.say_filled.Statement.{statement}
+use Rattle.sifexplain.proofs.out.say_filled.Tie as tie
 
 abbrev Inv-loop : tie.InvT-loop
-Inv-loop packet wanted₀ at₀ left₀ wanted at left = Unit
+Inv-loop text numbers rest₀ i₀ rest i = length rest ≤ length text
 
 abbrev μ-loop : tie.MeasureT-loop
-μ-loop packet wanted₀ at₀ left₀ wanted at left = left
+μ-loop text numbers rest₀ i₀ rest i = length rest
 
-pub fault-stand-spec : {M : Type 1} → statement M
-fault-stand-spec =
+pub say-filled-spec : {M : Type 1} → statement M
+say-filled-spec =
     tie.close
     (tie.spec
     Inv-loop
@@ -18,11 +20,15 @@ fault-stand-spec =
     (λ c. search needs)
     (λ c κs. search needs)
     (λ c. search needs)
+    (λ c. search needs)
+    (λ c. search needs)
     (λ c κs. search needs)
     (λ c. search needs)
     (λ c. search needs)
     (λ c. search needs)
     (λ c. search needs)
+    (λ c. search needs)
+    (λ c κs. search needs)
     (λ c. search needs)
     (λ c. search needs)
     (λ c. search needs)
