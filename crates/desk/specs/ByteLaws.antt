@@ -1,13 +1,13 @@
 -- Bytes to words and back, both ways, and the turns of the two loops that copy between them.
-use Prim.Native.Nat.{ℕ, zero, suc, _+_, _-_, _*_, _/_, _%_, _^_, _<_, _≤_}
+use Prim.Native.Nat.{ℕ, zero, suc, _+_, _*_, _/_, _%_, _^_, _<_, _≤_}
 use native.Mathlib.Nat.{div-div-eq-div-mul, div-add-mod'}
 use native.Mathlib.Omega.{arith}
 use native.Mathlib.Numerals.{add-one, towards-suc}
-use mathlib.Core.Path.{_≡_, refl, sym, ap, subst, _∙_}
+use mathlib.Core.Path.{_≡_, refl, sym, ap, _∙_}
 use mathlib.Core.List.{List, [], _∷_, _++_, append-assoc, append-nil}
 use lib.Arith.{digits-div, digits-mod}
 use lib.ListN.{length, getD, take, drop, set, length-append, length-take, drop-of-length-le}
-use lib.Seq.{drop-cons, take-suc-set, take-all, take-at, sets, sets-eq}
+use lib.Seq.{drop-cons, take-suc-set, take-all, take-at, length-take-le, sets, sets-eq}
 use Rattle.desk.specs.Bytes.{wordFrom, wordsOf, byteOf, bytesOf}
 
 -- four bytes and what is behind them
@@ -124,3 +124,66 @@ bytes-back (suc n) (x ∷ y ∷ z ∷ u ∷ b) e h =
     let third : byteOf (wordFrom x y z u) 65536 ≡ z = byte-between _ 65536 u z (x + y * 256) (omega arith) (omega arith) hz in
     let fourth : byteOf (wordFrom x y z u) 16777216 ≡ u = byte-between _ 16777216 0 u (x + y * 256 + z * 65536) (omega arith) (omega arith) hu in
     cc (first, second, third, fourth, bytes-back n b (omega arith) (λ i. h (suc (suc (suc (suc i))))))
+
+-- a buffer's words are a fourth of its bytes
+words-counted : (k : ℕ) (b : List ℕ) → length b ≤ k → length (wordsOf b) ≡ length b / 4
+unfolding wordsOf
+words-counted k [] h = refl
+words-counted k (x ∷ []) h = refl
+words-counted k (x ∷ y ∷ []) h = refl
+words-counted k (x ∷ y ∷ z ∷ []) h = refl
+words-counted zero (x ∷ y ∷ z ∷ w ∷ rest) h = absurd (omega arith)
+words-counted (suc k) (x ∷ y ∷ z ∷ w ∷ rest) h = let more : length (wordsOf rest) ≡ length rest / 4 = words-counted k rest (omega arith) in omega (arith, more)
+
+pub words-length : (b : List ℕ) → length (wordsOf b) ≡ length b / 4
+words-length b = words-counted (length b) b (omega arith)
+
+-- the front of a room that bytes are copied into
+module _ (b room : List ℕ) where
+  module _ (h : length b ≤ length room * 4) where
+    pub room-front : length b / 4 ≤ length room
+    room-front = omega arith
+
+    pub room-front-length : length b / 4 ≡ length (take (length b / 4) room)
+    room-front-length = sym (length-take-le (length b / 4) room room-front)
+
+    pub room-front-whole : length b % 4 ≡ 0 → length b ≡ length (take (length b / 4) room) * 4
+    room-front-whole z = rw (← room-front-length) (omega arith)
+
+  pub front-filled : (front : List ℕ) → front ≡ wordsOf b → front ++ drop (length b / 4) room ≡ wordsOf b ++ drop (length b / 4) room
+  front-filled front e = ap (λ (l : List ℕ). l ++ drop (length b / 4) room) e
+
+  -- and then holds their words
+  module _ (room′ : List ℕ) (e : room′ ≡ wordsOf b ++ drop (length b / 4) room) where
+    pub front-words : take (length b / 4) room′ ≡ wordsOf b
+    front-words = ap (take (length b / 4)) e ∙ take-at (wordsOf b) (drop (length b / 4) room) (length b / 4) (words-length b)
+
+    pub filled-front : length room′ ≡ length room → length b ≤ length room * 4 → length b / 4 ≤ length room′
+    filled-front s h = omega arith
+
+    pub filled-length : length b / 4 ≡ length (take (length b / 4) room′)
+    filled-length = sym (ap length front-words ∙ words-length b)
+
+    pub filled-whole : length b % 4 ≡ 0 → length b ≡ length (take (length b / 4) room′) * 4
+    filled-whole z = rw (← filled-length) (omega arith)
+
+pub ruleset fills = (refl, room-front, room-front-length, room-front-whole, front-filled)
+
+pub ruleset filleds = (refl, filled-front, filled-length, front-words)
+
+-- words that a buffer has room for, by its whole words, end within it
+pub words-in-front : (words : List ℕ) (b : ℕ) → length words ≤ b / 4 → length words * 4 ≤ b
+words-in-front words b h = omega arith
+
+-- the front of a buffer that words are copied into
+module _ (words buffer : List ℕ) (h : length words * 4 ≤ length buffer) where
+  pub front-length : length words * 4 ≡ length (take (length words * 4) buffer)
+  front-length = sym (length-take-le (length words * 4) buffer h)
+
+  pub front-is-whole : length (take (length words * 4) buffer) ≡ length words * 4
+  front-is-whole = sym front-length
+
+  pub front-spilled : (front : List ℕ) → front ≡ bytesOf words → front ++ drop (length words * 4) buffer ≡ bytesOf words ++ drop (length words * 4) buffer
+  front-spilled front e = ap (λ (l : List ℕ). l ++ drop (length words * 4) buffer) e
+
+pub ruleset spills = (refl, front-length, front-is-whole, front-spilled)

@@ -9,9 +9,11 @@ pub mod ReadCall  -- vans_read: the packet reader on byte buffers
 pub mod ReadCallLaws  -- for the proofs of the code of vans_read
 pub mod CheckCall  -- vans_check: the checker
 pub mod EraseCall  -- vans_erase: the eraser on byte buffers
-pub mod CallLaws  -- for the proofs of the code of vans_check and vans_erase
+pub mod EraseCallLaws  -- for the proofs of the code of vans_erase
 pub mod LentCall  -- what a call on a packet leaves in three buffers
 pub mod VansDesk  -- vans_desk: the desk call on byte buffers
+pub mod Work  -- what is done over the words of lent buffers, and what room for them must hold
+pub mod WorkLaws  -- for the proofs of the code of these rooms
 pub mod VansDeskLaws  -- for the proofs of its code behind the checker
 pub mod Tasks  -- the calls on packets by their task
 pub mod TaskLaws  -- for the proofs of the code of the tasks

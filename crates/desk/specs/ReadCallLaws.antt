@@ -1,4 +1,4 @@
--- Laws of vans_read for the proofs of its code: one for each way through it. `hands` and `reads` hold them for a search.
+-- Laws of vans_read for the proofs of its code: one for each way through it. `hands` holds those for the numbers, `reads` those by what the packet is.
 use Prim.Native.Nat.{ℕ, _*_, _/_, _^_, _<_, _≤_}
 use native.Mathlib.Omega.{arith}
 use mathlib.Core.Path.{_≡_, refl, sym, ap, _∙_}
@@ -15,38 +15,33 @@ use Rattle.listing.specs.Packet.{readingOf, packetOf, numbersIn, takenOf}
 use Rattle.listing.specs.TakenLaws.{read-taken, read-count, read-place, read-numbers}
 use Rattle.service.specs.Numbers.{DOES-NOT-FIT}
 use Rattle.desk.specs.Bytes.{bytesOf}
+use Rattle.desk.specs.ByteLaws.{words-in-front}
 use Rattle.desk.specs.Answer.{answerOf}
 use Rattle.desk.specs.PacketCall.{PacketCall, packetCall}
 use Rattle.desk.specs.ReadCall.{handedOf, byTaken, vansReadOf}
 
--- the front of a list has as many elements as were asked for
-pub front-is : (n : ℕ) (l : List ℕ) → n ≤ length l → n ≡ length (take n l)
-front-is n l h = sym (length-take-le n l h)
-
-pub bytes-front-is : (n : ℕ) (numbers : List ℕ) → n ≤ length numbers / 4 → n * 4 ≡ length (take (n * 4) numbers)
-bytes-front-is n numbers h = front-is (n * 4) numbers (omega arith)
-
-pub fronts-match : (n : ℕ) (room numbers : List ℕ) → n ≤ length room → n ≤ length numbers / 4 → length (take (n * 4) numbers) ≡ length (take n room) * 4
-fronts-match n room numbers h k = sym (bytes-front-is n numbers k) ∙ ap (λ (x : ℕ). x * 4) (front-is n room h)
-
-module _ (ns : List ℕ) (n : ℕ) (numbers : List ℕ) (a : ℕ) where
-  pub hands-not : length numbers / 4 < n → a ≡ answerOf DOES-NOT-FIT n 0 → packetCall a numbers ≡ handedOf ns n numbers
+-- numbers handed over
+module _ (ns out : List ℕ) (a : ℕ) where
+  pub hands-not : length out / 4 < length ns → a ≡ answerOf DOES-NOT-FIT (length ns) 0 → packetCall a out ≡ handedOf ns (length ns) out
   unfolding handedOf
-  hands-not h p = is-less (length numbers / 4) n _ _ _ h (ap (λ (x : ℕ). packetCall x numbers) p)
+  hands-not h p = is-less (length out / 4) (length ns) _ _ _ h (ap (λ (x : ℕ). packetCall x out) p)
 
-  pub hands-over : (front : List ℕ) → n ≤ length numbers / 4 → front ≡ bytesOf ns → a ≡ answerOf 0 0 n → packetCall a (front ++ drop (n * 4) numbers) ≡ handedOf ns n numbers
+  pub hands-over : (out′ : List ℕ) → length ns ≤ length out / 4 → out′ ≡ bytesOf ns ++ drop (length ns * 4) out → a ≡ answerOf 0 0 (length ns) → packetCall a out′ ≡ handedOf ns (length ns) out
   unfolding handedOf
-  hands-over front h q p = not-less (length numbers / 4) n _ _ _ h (rw (p, q))
+  hands-over out′ h q p = not-less (length out / 4) (length ns) _ _ _ h (rw (p, q))
 
-pub ruleset hands = (front-is, bytes-front-is, fronts-match, hands-not, hands-over)
+pub ruleset hands = (refl, words-in-front, hands-not, hands-over)
 
 -- a count fits the room and a place the answer
 module _ (packet room room′ : List ℕ) (t : Taken) (e : readingOf t room′ ≡ packetOf packet room) (h : length packet ≤ BYTES) (k : length packet ≤ length room) where
   pub count-in-room : (n : ℕ) → t ≡ Listing n → length room′ ≡ length room → n ≤ length room′
   count-in-room n p s = omega (arith, read-count packet room room′ t e h k n p)
 
-  pub count-in-packet : (n : ℕ) → t ≡ Listing n → n ≤ BYTES
-  count-in-packet n p = omega (arith, read-count packet room room′ t e h k n p)
+  pub count-is : (n : ℕ) → t ≡ Listing n → length room′ ≡ length room → n ≡ length (take n room′)
+  count-is n p s = sym (length-take-le n room′ (count-in-room n p s))
+
+  pub count-in-packet : (n : ℕ) → t ≡ Listing n → length room′ ≡ length room → length (take n room′) ≤ BYTES
+  count-in-packet n p s = omega (arith, count-is n p s, read-count packet room room′ t e h k n p)
 
   pub place-small : (number place : ℕ) → t ≡ Fault number place → place < 2 ^ 24
   place-small number place p = omega (arith, read-place packet room room′ t e h k number place p)
@@ -61,11 +56,13 @@ module _ (packet numbers : List ℕ) (c : PacketCall) where
   as-taken t e p = p ∙ ap (λ (x : Taken). byTaken x (numbersIn packet) numbers) (sym e)
 
   module _ (room room′ : List ℕ) (t : Taken) (e : readingOf t room′ ≡ packetOf packet room) (h : length packet ≤ BYTES) (k : length packet ≤ length room) where
-    pub reads-listing : (n : ℕ) → t ≡ Listing n → c ≡ handedOf (take n room′) n numbers → c ≡ vansReadOf packet numbers
+    pub reads-listing : (n : ℕ) → t ≡ Listing n → length room′ ≡ length room → c ≡ handedOf (take n room′) (length (take n room′)) numbers → c ≡ vansReadOf packet numbers
     unfolding byTaken
-    reads-listing n p q =
+    reads-listing n p s q =
         as-taken (Listing n) (sym (read-taken packet room room′ t e h k) ∙ p)
-        (q ∙ ap (λ (ns : List ℕ). handedOf ns n numbers) (read-numbers packet room room′ t e h k n p))
+        (q
+        ∙ ap (λ (m : ℕ). handedOf (take n room′) m numbers) (sym (count-is packet room room′ t e h k n p s))
+        ∙ ap (λ (ns : List ℕ). handedOf ns n numbers) (read-numbers packet room room′ t e h k n p))
 
     pub reads-fault : (a number place : ℕ) → t ≡ Fault number place → a ≡ answerOf number place 0 → c ≡ packetCall a numbers → c ≡ vansReadOf packet numbers
     unfolding byTaken
@@ -82,4 +79,4 @@ module _ (packet numbers : List ℕ) (c : PacketCall) where
   reads-too-long a h q s =
       as-taken (Fault TOO-LONG 0) (sym (is-less BYTES (length packet) _ _ _ h refl)) (s ∙ ap (λ (x : ℕ). packetCall x numbers) q)
 
-pub ruleset reads = (refl, count-in-room, count-in-packet, place-small, place-fits, reads-listing, reads-fault, reads-no-room, reads-too-long)
+pub ruleset reads = (refl, count-in-room, count-is, count-in-packet, place-small, place-fits, reads-listing, reads-fault, reads-no-room)

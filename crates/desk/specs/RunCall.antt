@@ -1,6 +1,5 @@
 -- vans_run: what it answers, and what heap and registers hold afterwards, for all bytes.
-use Prim.Native.Nat.{ℕ, _+_, _/_, _%_, _≤_}
-use mathlib.Core.Path.{_≡_}
+use Prim.Native.Nat.{ℕ, _+_, _/_, _%_}
 use mathlib.Core.List.{List}
 use lib.ListN.{length}
 use lib.Dec.{eqb}
@@ -31,18 +30,6 @@ raggedOf n code heap regs =
 
 abbrev pub borderOf : ℕ → ℕ → ℕ → ℕ → ℕ
 borderOf code heap regs budget = raggedOf (refusalOf (code / 4) (heap / 4) budget) code heap regs
-
--- the largest code and heap, in words, of a call on small buffers; it decides what a call costs, and no answer
-abbrev pub SMALL-WORDS : ℕ
-SMALL-WORDS = 64
-
--- buffers of so many bytes are whole words, at most so many of code and heap, and sixteen registers
-pub record Whole (code-words heap-words code heap regs : ℕ) : Type 0 where
-  pub code-whole : code % 4 ≡ 0
-  pub heap-whole : heap % 4 ≡ 0
-  pub code-fits : code / 4 ≤ code-words
-  pub heap-fits : heap / 4 ≤ heap-words
-  pub regs-fit : regs ≡ REGS-BYTES
 
 -- an outcome of the machine, in bytes
 unfoldable pub inBytes : Outcome → RunCall

@@ -1,22 +1,22 @@
 -- Laws of vans_run for the proofs of its code: what passes the border is whole words within the limits; the words' outcome makes the bytes' outcome; the call itself.
-use Prim.Native.Nat.{ℕ, _+_, _*_, _/_, _%_, _<_, _≤_}
+use Prim.Native.Nat.{ℕ, _+_, _/_, _%_, _≤_}
 use native.Mathlib.Omega.{arith}
 use mathlib.Core.Path.{_≡_, refl, sym, ap, _∙_}
-use mathlib.Core.Bool.{Bool, true, false}
 use mathlib.Core.Logic.{⊎-elim}
 use mathlib.Core.List.{List}
-use lib.ListN.{length, take}
-use lib.Seq.{length-take-le}
+use lib.ListN.{length}
 use lib.Dec.{ltb, eqb}
 use borrow.Author.Tests.{ltb-false, eqb-true}
-use Rattle.choice.specs.Pick.{pick, either, is-equal, not-equal}
-use Rattle.machine.specs.Numbers.{CODE-TOO-LONG, BAD-SIZE, BUDGET-TOO-LARGE, CODE-WORDS, HEAP-WORDS, BUDGET}
+use Rattle.choice.specs.Pick.{either, is-equal, not-equal}
+use Rattle.machine.specs.Numbers.{CODE-TOO-LONG, CODE-WORDS, HEAP-WORDS}
 use Rattle.machine.specs.declared.table.State.{State}
 use Rattle.machine.specs.Step.{machineOf}
-use Rattle.machine.specs.Run.{Outcome, outcomeAt, refusalOf, runOf}
+use Rattle.machine.specs.Run.{outcomeAt, refusalOf, runOf}
 use Rattle.desk.specs.Bytes.{wordsOf, bytesOf}
 use Rattle.desk.specs.Answer.{answerOf}
-use Rattle.desk.specs.RunCall.{RunCall, runCall, REGS-BYTES, Whole, raggedOf, borderOf, inBytes, runBytesOf, vansRunOf}
+use Rattle.desk.specs.RunCall.{RunCall, runCall, REGS-BYTES, raggedOf, borderOf, inBytes, runBytesOf, vansRunOf}
+use Rattle.desk.specs.Work.{Whole}
+use Rattle.desk.specs.WorkLaws.{run-meant, ran-work}
 
 -- what the machine makes of words, in bytes
 pub in-bytes : (c h r h′ heap′ regs′ : List ℕ) (budget : ℕ) (s : State) (n a : ℕ)
@@ -52,33 +52,11 @@ not-ragged n code heap regs e =
     (either (eqb (code % 4 + heap % 4) 0) _ _ 0 (w .1)))
     (either (eqb n CODE-TOO-LONG) _ _ 0 e)
 
-pub passes : (code heap regs budget n : ℕ) → n ≡ borderOf code heap regs budget → n ≡ 0 → Whole CODE-WORDS HEAP-WORDS code heap regs
+pub passes : (code heap regs budget n : ℕ) → n ≡ borderOf code heap regs budget → n ≡ 0 → Whole code heap regs
 passes code heap regs budget n e z =
     let p : (refusalOf (code / 4) (heap / 4) budget ≡ 0) × (code % 4 + heap % 4 ≡ 0) × (regs ≡ REGS-BYTES) = not-ragged _ code heap regs (sym e ∙ z) in
     let q : (code / 4 ≤ CODE-WORDS) × (heap / 4 ≤ HEAP-WORDS) = not-refused (code / 4) (heap / 4) budget (p .0) in
-    record { code-whole = omega arith; heap-whole = omega arith; code-fits = q .0; heap-fits = q .1; regs-fit = p .2 }
-
--- few bytes are few words
-pub fewer : (cw hw w code heap regs : ℕ) → Whole cw hw code heap regs → heap ≤ w * 4 → Whole cw w code heap regs
-fewer cw hw w code heap regs p h =
-    record { code-whole = p .code-whole; heap-whole = p .heap-whole; code-fits = p .code-fits; heap-fits = omega arith; regs-fit = p .regs-fit }
-
-pub fewer-both : (cw hw w code heap regs : ℕ) → Whole cw hw code heap regs → code ≤ w * 4 → heap ≤ w * 4 → Whole w w code heap regs
-fewer-both cw hw w code heap regs p hc hh =
-    record { code-whole = p .code-whole; heap-whole = p .heap-whole; code-fits = omega arith; heap-fits = omega arith; regs-fit = p .regs-fit }
-
--- the front of a room for w words that a buffer of b bytes fills
-module _ (room : List ℕ) (b w : ℕ) (e : length room ≡ w) (h : b / 4 ≤ w) where
-  pub front-fits : b / 4 ≤ length room
-  front-fits = omega arith
-
-  pub front-counts : b / 4 ≡ length (take (b / 4) room)
-  front-counts = sym (length-take-le (b / 4) room front-fits)
-
-  pub front-words : b % 4 ≡ 0 → b ≡ length (take (b / 4) room) * 4
-  front-words z = rw (← front-counts) (omega arith)
-
-pub ruleset fronts = (front-fits, front-counts, front-words)
+    record { table-whole = omega arith; heap-whole = omega arith; table-fits = q .0; heap-fits = q .1; regs-fit = p .2 }
 
 -- the call
 module _ (code heap regs : List ℕ) (budget n : ℕ) (e : n ≡ borderOf (length code) (length heap) (length regs) budget) where
@@ -92,4 +70,4 @@ module _ (code heap regs : List ℕ) (budget n : ℕ) (e : n ≡ borderOf (lengt
       not-equal (borderOf (length code) (length heap) (length regs) budget) 0 _ _ _ (λ h. z (e ∙ h))
       (ap (λ (k : ℕ). runCall k heap regs) (p ∙ ap (λ (k : ℕ). answerOf k 0 0) e))
 
-pub ruleset calls = (passes, call-runs, call-refuses)
+pub ruleset calls = (refl, passes, run-meant, ran-work, call-runs, call-refuses)

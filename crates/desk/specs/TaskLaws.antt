@@ -1,19 +1,23 @@
--- Laws of vans_desk by what the checker says, and of the tasks, for the proofs of their code: one for each way through it.
-use Prim.Native.Nat.{ℕ, _<_, _≤_}
+-- Laws of the tasks for the proofs of their code, one for each way through it: by what the checker says, by the task, and of each call as its task.
+use Prim.Native.Nat.{ℕ, _^_, _<_, _≤_}
 use native.Mathlib.Omega.{arith}
 use mathlib.Core.Path.{_≡_, refl, sym, ap, subst, _∙_}
 use mathlib.Core.List.{List}
+use mir.Syntax.{w32}
+use mir.Val.{Fits}
 use lib.ListN.{length, take}
-use Rattle.choice.specs.Pick.{is-equal, not-equal}
+use lib.Seq.{length-take-le}
+use lib.Dec.{eqb}
+use Rattle.choice.specs.Pick.{each-way, is-equal, not-equal}
 use Rattle.listing.specs.Limits.{BYTES, TOO-LONG}
 use Rattle.listing.specs.Packet.{numbersIn, takenOf}
-use Rattle.listing.specs.Parts.{listingIn}
+use Rattle.listing.specs.Parts.{itemsIn, listingIn}
 use Rattle.listing.specs.Theorems.{taken-is-listed}
 use Rattle.checker.specs.declared.packets.Checked.{Checked}
 use Rattle.checker.specs.declared.packets.Checked.the-variants.{Accepted, Refused, NoRoom}
 use Rattle.checker.specs.Check.{verdictIn, checkingOf, checkIn, checkOf}
-use Rattle.checker.specs.CheckLaws.{accepted-taken, check-answer, check-numbers}
-use Rattle.start.specs.Start.{firstListed, faultOf}
+use Rattle.checker.specs.CheckLaws.{accepted-taken, check-answer, check-count, check-numbers, check-place}
+use Rattle.start.specs.Start.{firstListed}
 use Rattle.start.specs.ListedLaws.{Indexed, listing-indexed}
 use Rattle.service.specs.Numbers.{DOES-NOT-FIT}
 use Rattle.service.specs.DeskLaws.{too-long}
@@ -22,76 +26,114 @@ use Rattle.desk.specs.Answer.{answerOf}
 use Rattle.desk.specs.PacketCall.{PacketCall, packetCall}
 use Rattle.desk.specs.LentCall.{LentCall, lentCall, beside}
 use Rattle.desk.specs.ReadCall.{vansReadOf}
-use Rattle.desk.specs.CheckCall.{vansCheckOf}
-use Rattle.desk.specs.EraseCall.{vansEraseOf}
+use Rattle.desk.specs.ReadCallLaws.{reads-too-long}
+use Rattle.desk.specs.CheckCall.{answerBy, vansCheckOf}
+use Rattle.desk.specs.EraseCall.{erasedOut, eraseBy, vansEraseOf}
 use Rattle.desk.specs.VansDesk.{refusedBytes, serveBytes, bytesFault, vansDeskBy, vansDeskOf}
-use Rattle.desk.specs.Tasks.{taskOf}
+use Rattle.desk.specs.Tasks.{checkedTask, acceptedTask, taskOf}
 
--- by what the checker says of a packet
-module _ (packet code heap blocks regs : List ℕ) (budget : ℕ) where
-  served-as : (x : Checked) (l : LentCall) → x ≡ checkOf packet → l ≡ vansDeskBy x (numbersIn packet) code heap blocks regs budget → l ≡ vansDeskOf packet code heap blocks regs budget
-  unfolding vansDeskOf
-  served-as x l p q = q ∙ ap (λ (y : Checked). vansDeskBy y (numbersIn packet) code heap blocks regs budget) p
+module _ (task : ℕ) (out heap blocks regs : List ℕ) (budget : ℕ) where
+  -- with a refusal nothing changes, whatever the task
+  refused-is : (k place : ℕ) (ns : List ℕ) → lentCall (answerOf k place 0) out heap regs ≡ checkedTask task (Refused k place) ns out heap blocks regs budget
+  unfolding checkedTask answerBy eraseBy vansDeskBy refusedBytes
+  refused-is k place ns =
+      let Goal : LentCall → Type 0 = λ (l : LentCall). lentCall (answerOf k place 0) out heap regs ≡ l in
+      each-way Goal (eqb task 1) _ _ (λ q. refl) (λ q. each-way Goal (eqb task 2) _ _ (λ p. refl) (λ p. refl))
 
-  refused-as : (x : Checked) (k place a : ℕ) → x ≡ checkOf packet → vansDeskBy x (numbersIn packet) code heap blocks regs budget ≡ refusedBytes (faultOf k place) code heap regs
-      → a ≡ answerOf k place 0 → lentCall a code heap regs ≡ vansDeskOf packet code heap blocks regs budget
-  unfolding refusedBytes
-  refused-as x k place a p f q = served-as x _ p (ap (λ (y : ℕ). lentCall y code heap regs) q ∙ sym f)
+  no-room-is : (ns : List ℕ) → lentCall (answerOf DOES-NOT-FIT 0 0) out heap regs ≡ checkedTask task NoRoom ns out heap blocks regs budget
+  unfolding checkedTask answerBy eraseBy vansDeskBy
+  no-room-is ns = refused-is DOES-NOT-FIT 0 ns
 
-  pub desk-too-long : (a : ℕ) → BYTES < length packet → a ≡ answerOf TOO-LONG 0 0 → lentCall a code heap regs ≡ vansDeskOf packet code heap blocks regs budget
-  unfolding vansDeskBy
-  desk-too-long a h q = refused-as (Refused TOO-LONG 0) TOO-LONG 0 a (too-long packet h) refl q
+  -- an accepted packet's numbers, by the task
+  module _ (ns : List ℕ) (a : ℕ) (out′ : List ℕ) where
+    pub accepted-checks : task ≡ 1 → a ≡ answerOf 0 0 0 → lentCall a out heap regs ≡ acceptedTask task ns out heap blocks regs budget
+    unfolding checkedTask answerBy
+    accepted-checks h p = is-equal task 1 _ _ _ h (ap (λ (x : ℕ). lentCall x out heap regs) p)
 
-  -- in a room that is large enough
-  module _ (room room′ : List ℕ) (c : Checked) (e : checkingOf c room′ ≡ checkIn packet room) (h : length packet ≤ BYTES) (k : length packet ≤ length room) where
-    is-check : (x : Checked) → c ≡ x → x ≡ checkOf packet
-    is-check x p = sym p ∙ check-answer packet room room′ c e h k
+    pub accepted-erases : (task ≡ 1 → ⊥) → task ≡ 2 → packetCall a out′ ≡ erasedOut (itemsIn ns) out → lentCall a out′ heap regs ≡ acceptedTask task ns out heap blocks regs budget
+    unfolding checkedTask eraseBy
+    accepted-erases h k p = not-equal task 1 _ _ _ h (is-equal task 2 _ _ _ k (ap (λ (c : PacketCall). beside c heap regs) p))
 
-    pub desk-accepted : (n : ℕ) (l : LentCall) → c ≡ Accepted n
-        → l ≡ serveBytes (bytesFault (take n room′) code heap blocks regs budget) (take n room′) (wordsOf heap) (wordsOf regs) code heap regs budget → l ≡ vansDeskOf packet code heap blocks regs budget
-    unfolding vansDeskBy
-    desk-accepted n l p q =
-        served-as (Accepted n) l (is-check (Accepted n) p)
-        (q
-        ∙ ap (λ (ns : List ℕ). serveBytes (bytesFault ns code heap blocks regs budget) ns (wordsOf heap) (wordsOf regs) code heap regs budget) (check-numbers packet room room′ c e h k n p))
+    pub accepted-serves : (l : LentCall) → (task ≡ 1 → ⊥) → (task ≡ 2 → ⊥) → l ≡ serveBytes (bytesFault ns out heap blocks regs budget) ns (wordsOf heap) (wordsOf regs) out heap regs budget
+        → l ≡ acceptedTask task ns out heap blocks regs budget
+    unfolding checkedTask vansDeskBy
+    accepted-serves l h k p = not-equal task 1 _ _ _ h (not-equal task 2 _ _ _ k p)
 
-    pub desk-refused : (number place a : ℕ) → c ≡ Refused number place → a ≡ answerOf number place 0 → lentCall a code heap regs ≡ vansDeskOf packet code heap blocks regs budget
-    unfolding vansDeskBy
-    desk-refused number place a p q = refused-as (Refused number place) number place a (is-check (Refused number place) p) refl q
+  -- and how many there are does not matter
+  count-is : (n m : ℕ) (ns : List ℕ) → checkedTask task (Accepted n) ns out heap blocks regs budget ≡ checkedTask task (Accepted m) ns out heap blocks regs budget
+  unfolding checkedTask answerBy eraseBy vansDeskBy
+  count-is n m ns = refl
 
-    pub desk-no-room : (a : ℕ) → c ≡ NoRoom → a ≡ answerOf DOES-NOT-FIT 0 0 → lentCall a code heap regs ≡ vansDeskOf packet code heap blocks regs budget
-    unfolding vansDeskBy
-    desk-no-room a p q = refused-as NoRoom DOES-NOT-FIT 0 a (is-check NoRoom p) refl q
+pub ruleset accepteds = (refl, accepted-checks, accepted-erases, accepted-serves)
 
--- the registers that an accepted listing's first label lists
+-- by what the checker says of a packet in a room that is large enough
 module _ (packet room room′ : List ℕ) (c : Checked) (e : checkingOf c room′ ≡ checkIn packet room) (h : length packet ≤ BYTES) (k : length packet ≤ length room) where
+  is-check : (x : Checked) → c ≡ x → x ≡ checkOf packet
+  is-check x p = sym p ∙ check-answer packet room room′ c e h k
+
+  pub refused-small : (number place : ℕ) → c ≡ Refused number place → place < 2 ^ 24
+  refused-small number place p = omega (arith, check-place packet room room′ c e h k number place p)
+
+  pub refused-fits : (number place : ℕ) → c ≡ Refused number place → Fits w32 place
+  refused-fits number place p = record { fits = omega (arith, refused-small number place p) }
+
+  pub front-in-room : (n : ℕ) → c ≡ Accepted n → length room′ ≡ length room → n ≤ length room′
+  front-in-room n p s = omega (arith, check-count packet room room′ c e h k n p)
+
+  pub front-is : (n : ℕ) → c ≡ Accepted n → length room′ ≡ length room → n ≡ length (take n room′)
+  front-is n p s = sym (length-take-le n room′ (front-in-room n p s))
+
+  -- the registers that an accepted listing's first label lists
   pub accepted-indexed : (n : ℕ) → c ≡ Accepted n → Indexed (firstListed (take n room′))
   unfolding checkOf
   accepted-indexed n p =
-      let taken = accepted-taken (verdictIn packet) n (takenOf packet) (sym p ∙ check-answer packet room room′ c e h k) .0 in
+      let taken = accepted-taken (verdictIn packet) n (takenOf packet) (is-check (Accepted n) p) .0 in
       subst (λ (ns : List ℕ). Indexed (firstListed ns)) (sym (check-numbers packet room room′ c e h k n p)) (listing-indexed (listingIn (numbersIn packet)) (taken-is-listed packet n taken .0))
 
-pub ruleset desks = (refl, desk-accepted, desk-refused, desk-no-room, accepted-indexed)
+  module _ (task : ℕ) (out heap blocks regs : List ℕ) (budget : ℕ) where
+    abbrev whole : Checked → LentCall
+    whole x = checkedTask task x (numbersIn packet) out heap blocks regs budget
+
+    pub checked-accepted : (n : ℕ) (l : LentCall) → c ≡ Accepted n → l ≡ acceptedTask task (take n room′) out heap blocks regs budget → l ≡ checkedTask task (checkOf packet) (numbersIn packet) out heap blocks regs budget
+    checked-accepted n l p q =
+        q
+        ∙ count-is task out heap blocks regs budget (length (take n room′)) n (take n room′)
+        ∙ ap (λ (ns : List ℕ). checkedTask task (Accepted n) ns out heap blocks regs budget) (check-numbers packet room room′ c e h k n p)
+        ∙ ap whole (is-check (Accepted n) p)
+
+    pub checked-refused : (number place a : ℕ) → c ≡ Refused number place → a ≡ answerOf number place 0
+        → lentCall a out heap regs ≡ checkedTask task (checkOf packet) (numbersIn packet) out heap blocks regs budget
+    checked-refused number place a p q =
+        ap (λ (x : ℕ). lentCall x out heap regs) q ∙ refused-is task out heap blocks regs budget number place (numbersIn packet) ∙ ap whole (is-check (Refused number place) p)
+
+    pub checked-no-room : (a : ℕ) → c ≡ NoRoom → a ≡ answerOf DOES-NOT-FIT 0 0 → lentCall a out heap regs ≡ checkedTask task (checkOf packet) (numbersIn packet) out heap blocks regs budget
+    checked-no-room a p q =
+        ap (λ (x : ℕ). lentCall x out heap regs) q ∙ no-room-is task out heap blocks regs budget (numbersIn packet) ∙ ap whole (is-check NoRoom p)
+
+pub ruleset checkings = (refl, refused-small, refused-fits, front-in-room, front-is, accepted-indexed, checked-accepted, checked-refused, checked-no-room)
 
 -- the tasks
-module _ (task : ℕ) (packet out heap blocks regs : List ℕ) (budget a : ℕ) (out′ : List ℕ) where
-  pub task-reads : task ≡ 0 → packetCall a out′ ≡ vansReadOf packet out → lentCall a out′ heap regs ≡ taskOf task packet out heap blocks regs budget
+module _ (task : ℕ) (packet out heap blocks regs : List ℕ) (budget : ℕ) where
+  pub task-reads : (a : ℕ) (out′ : List ℕ) → task ≡ 0 → packetCall a out′ ≡ vansReadOf packet out → lentCall a out′ heap regs ≡ taskOf task packet out heap blocks regs budget
   unfolding taskOf
-  task-reads h p = is-equal task 0 _ _ _ h (ap (λ (c : PacketCall). beside c heap regs) p)
+  task-reads a out′ h p = is-equal task 0 _ _ _ h (ap (λ (c : PacketCall). beside c heap regs) p)
 
-  pub task-checks : (task ≡ 0 → ⊥) → task ≡ 1 → a ≡ vansCheckOf packet → lentCall a out heap regs ≡ taskOf task packet out heap blocks regs budget
+  pub task-checked : (l : LentCall) → (task ≡ 0 → ⊥) → l ≡ checkedTask task (checkOf packet) (numbersIn packet) out heap blocks regs budget → l ≡ taskOf task packet out heap blocks regs budget
   unfolding taskOf
-  task-checks h k p = not-equal task 0 _ _ _ h (is-equal task 1 _ _ _ k (ap (λ (x : ℕ). lentCall x out heap regs) p))
+  task-checked l h p = not-equal task 0 _ _ _ h p
 
-  pub task-erases : (task ≡ 0 → ⊥) → (task ≡ 1 → ⊥) → task ≡ 2 → packetCall a out′ ≡ vansEraseOf packet out → lentCall a out′ heap regs ≡ taskOf task packet out heap blocks regs budget
+  -- a packet over the limit
+  pub task-too-long : (a : ℕ) → BYTES < length packet → a ≡ answerOf TOO-LONG 0 0 → lentCall a out heap regs ≡ taskOf task packet out heap blocks regs budget
   unfolding taskOf
-  task-erases h k l p = not-equal task 0 _ _ _ h (not-equal task 1 _ _ _ k (is-equal task 2 _ _ _ l (ap (λ (c : PacketCall). beside c heap regs) p)))
+  task-too-long a h q =
+      each-way (λ (l : LentCall). lentCall a out heap regs ≡ l) (eqb task 0) _ _
+      (λ p. ap (λ (c : PacketCall). beside c heap regs) (reads-too-long packet out (packetCall a out) a h q refl))
+      (λ p.
+      ap (λ (x : ℕ). lentCall x out heap regs) q
+      ∙ refused-is task out heap blocks regs budget TOO-LONG 0 (numbersIn packet)
+      ∙ ap (λ (x : Checked). checkedTask task x (numbersIn packet) out heap blocks regs budget) (too-long packet h))
 
-  pub task-serves : (l : LentCall) → (task ≡ 0 → ⊥) → (task ≡ 1 → ⊥) → (task ≡ 2 → ⊥) → l ≡ vansDeskOf packet out heap blocks regs budget → l ≡ taskOf task packet out heap blocks regs budget
-  unfolding taskOf
-  task-serves l h k m p = not-equal task 0 _ _ _ h (not-equal task 1 _ _ _ k (not-equal task 2 _ _ _ m p))
-
-pub ruleset tasks = (refl, task-reads, task-checks, task-erases, task-serves)
+pub ruleset tasks = (refl, task-reads, task-checked, task-too-long)
 
 -- each call is its task
 module _ (packet out heap blocks regs : List ℕ) (budget task a : ℕ) (out′ heap′ regs′ : List ℕ) (e : lentCall a out′ heap′ regs′ ≡ taskOf task packet out heap blocks regs budget) where
@@ -103,15 +145,15 @@ module _ (packet out heap blocks regs : List ℕ) (budget task a : ℕ) (out′ 
   call-reads h = ap as-packet (e ∙ sym (is-equal task 0 _ _ _ h refl))
 
   pub call-checks : task ≡ 1 → a ≡ vansCheckOf packet
-  unfolding taskOf
+  unfolding taskOf checkedTask vansCheckOf
   call-checks h = ap (λ (l : LentCall). l .answer) (e ∙ sym (not-equal task 0 _ _ _ (λ z. omega arith) (is-equal task 1 _ _ _ h refl)))
 
   pub call-erases : task ≡ 2 → packetCall a out′ ≡ vansEraseOf packet out
-  unfolding taskOf
+  unfolding taskOf checkedTask vansEraseOf
   call-erases h = ap as-packet (e ∙ sym (not-equal task 0 _ _ _ (λ z. omega arith) (not-equal task 1 _ _ _ (λ z. omega arith) (is-equal task 2 _ _ _ h refl))))
 
   pub call-serves : task ≡ 3 → lentCall a out′ heap′ regs′ ≡ vansDeskOf packet out heap blocks regs budget
-  unfolding taskOf
+  unfolding taskOf checkedTask vansDeskOf
   call-serves h = e ∙ sym (not-equal task 0 _ _ _ (λ z. omega arith) (not-equal task 1 _ _ _ (λ z. omega arith) (not-equal task 2 _ _ _ (λ z. omega arith) refl)))
 
-pub ruleset calls = (refl, desk-too-long, call-reads, call-checks, call-erases, call-serves)
+pub ruleset calls = (refl, call-reads, call-checks, call-erases, call-serves)

@@ -1,11 +1,10 @@
 -- The desk call at the C border is the desk call on words: on buffers of whole words, vans_desk answers what `deskOf` answers on their words, and leaves in bytes what that leaves in words. So what sound/specs/Promise.antt says of `deskOf` holds of vans_desk.
-use Prim.Native.Nat.{ℕ, zero, suc, _+_, _*_, _/_, _%_, _<_, _≤_}
+use Prim.Native.Nat.{ℕ, zero, suc, _+_, _*_, _/_, _%_, _<_}
 use native.Mathlib.Omega.{arith}
 use mathlib.Core.Path.{_≡_, refl, sym, ap, _∙_}
 use mathlib.Core.Bool.{Bool, true, false}
 use mathlib.Core.List.{List, [], _∷_, _++_}
 use lib.ListN.{length, getD, drop, drop-of-length-le}
-use lib.Dec.{eqb}
 use Rattle.choice.specs.Pick.{pick}
 use Rattle.machine.specs.Run.{Outcome}
 use Rattle.listing.specs.Packet.{numbersIn}
@@ -19,7 +18,7 @@ use Rattle.start.specs.Start.{faultOf, orElse, startOf}
 use Rattle.service.specs.Numbers.{DOES-NOT-FIT}
 use Rattle.service.specs.Desk.{rightSizes, sizesOf, laterFault, codeFor, ranOf, DeskCall, refusedCall, ranCall, serveBy, deskBy, deskOf}
 use Rattle.desk.specs.Bytes.{wordsOf, byteOf, bytesOf}
-use Rattle.desk.specs.ByteLaws.{bytes-back}
+use Rattle.desk.specs.ByteLaws.{words-length, bytes-back}
 use Rattle.desk.specs.Answer.{answerOf}
 use Rattle.desk.specs.RunCall.{REGS-BYTES}
 use Rattle.desk.specs.LentCall.{LentCall, lentCall}
@@ -33,19 +32,6 @@ inBytes d = lentCall (answerOf (d .answer .number) (d .answer .place) (d .answer
 -- each of a row of numbers is a byte
 abbrev pub AreBytes : List ℕ → Type 0
 AreBytes b = (i : ℕ) → getD b i 0 < 256
-
--- a buffer's words are a fourth of its bytes
-words-counted : (k : ℕ) (b : List ℕ) → length b ≤ k → length (wordsOf b) ≡ length b / 4
-unfolding wordsOf
-words-counted k [] h = refl
-words-counted k (x ∷ []) h = refl
-words-counted k (x ∷ y ∷ []) h = refl
-words-counted k (x ∷ y ∷ z ∷ []) h = refl
-words-counted zero (x ∷ y ∷ z ∷ w ∷ rest) h = absurd (omega arith)
-words-counted (suc k) (x ∷ y ∷ z ∷ w ∷ rest) h = let more : length (wordsOf rest) ≡ length rest / 4 = words-counted k rest (omega arith) in omega (arith, more)
-
-words-length : (b : List ℕ) → length (wordsOf b) ≡ length b / 4
-words-length b = words-counted (length b) b (omega arith)
 
 bytes-append : (a b : List ℕ) → bytesOf (a ++ b) ≡ bytesOf a ++ bytesOf b
 unfolding bytesOf

@@ -6,7 +6,8 @@ ghost use Prim.Native.Nat.{_≤_};
 ghost use lib.ListN.{length};
 ghost use Rattle.listing.specs.Limits.{BYTES};
 ghost use Rattle.desk.specs.LentCall.{lentCall};
-ghost use Rattle.desk.specs.Tasks.{taskOf};
+ghost use Rattle.desk.specs.Tasks.{SMALL-PACKET, SHORT-PACKET, MIDDLE-PACKET, LONG-PACKET, taskOf};
+
 // The bytes of packets for which there is a room of their own. The longest packet that is taken has
 // fewer bytes than a long one here.
 const SMALL_PACKET: usize = 128;
@@ -20,27 +21,19 @@ const LONG_PACKET: usize = 20480;
 // Rooms for the numbers of a packet, a word for each byte, in sizes: a short packet does not pay for
 // clearing the longest one's room.
 
-fn small_room() -> [u32; SMALL_PACKET]
-    ensures { λ r. ⌜ length r ≡ 128 ⌝ }
-{
+fn small_room() -> [u32; SMALL_PACKET] {
     [0; SMALL_PACKET]
 }
 
-fn short_room() -> [u32; SHORT_PACKET]
-    ensures { λ r. ⌜ length r ≡ 1024 ⌝ }
-{
+fn short_room() -> [u32; SHORT_PACKET] {
     [0; SHORT_PACKET]
 }
 
-fn middle_room() -> [u32; MIDDLE_PACKET]
-    ensures { λ r. ⌜ length r ≡ 4096 ⌝ }
-{
+fn middle_room() -> [u32; MIDDLE_PACKET] {
     [0; MIDDLE_PACKET]
 }
 
-fn long_room() -> [u32; LONG_PACKET]
-    ensures { λ r. ⌜ length r ≡ 20480 ⌝ }
-{
+fn long_room() -> [u32; LONG_PACKET] {
     [0; LONG_PACKET]
 }
 
@@ -53,7 +46,7 @@ fn in_small(
     regs: &mut [u8],
     budget: u32,
 ) -> u64
-    requires { ⌜ length (now packet) ≤ 128 ⌝ }
+    requires { ⌜ length (now packet) ≤ SMALL-PACKET ⌝ }
     ensures { λ a. ⌜ lentCall a (now (out .exit)) (now (heap .exit)) (now (regs .exit)) ≡ taskOf task (now (packet .entry)) (now (out .entry)) (now (heap .entry)) (now (blocks .entry)) (now (regs .entry)) budget ⌝ }
 {
     let mut room = small_room();
@@ -69,7 +62,7 @@ fn in_short(
     regs: &mut [u8],
     budget: u32,
 ) -> u64
-    requires { ⌜ length (now packet) ≤ 1024 ⌝ }
+    requires { ⌜ length (now packet) ≤ SHORT-PACKET ⌝ }
     ensures { λ a. ⌜ lentCall a (now (out .exit)) (now (heap .exit)) (now (regs .exit)) ≡ taskOf task (now (packet .entry)) (now (out .entry)) (now (heap .entry)) (now (blocks .entry)) (now (regs .entry)) budget ⌝ }
 {
     let mut room = short_room();
@@ -85,7 +78,7 @@ fn in_middle(
     regs: &mut [u8],
     budget: u32,
 ) -> u64
-    requires { ⌜ length (now packet) ≤ 4096 ⌝ }
+    requires { ⌜ length (now packet) ≤ MIDDLE-PACKET ⌝ }
     ensures { λ a. ⌜ lentCall a (now (out .exit)) (now (heap .exit)) (now (regs .exit)) ≡ taskOf task (now (packet .entry)) (now (out .entry)) (now (heap .entry)) (now (blocks .entry)) (now (regs .entry)) budget ⌝ }
 {
     let mut room = middle_room();
@@ -101,7 +94,7 @@ fn in_long(
     regs: &mut [u8],
     budget: u32,
 ) -> u64
-    requires { ⌜ length (now packet) ≤ 20480 ⌝ }
+    requires { ⌜ length (now packet) ≤ LONG-PACKET ⌝ }
     ensures { λ a. ⌜ lentCall a (now (out .exit)) (now (heap .exit)) (now (regs .exit)) ≡ taskOf task (now (packet .entry)) (now (out .entry)) (now (heap .entry)) (now (blocks .entry)) (now (regs .entry)) budget ⌝ }
 {
     let mut room = long_room();
@@ -124,7 +117,7 @@ fn in_longest(
     task_in(task, &mut room, packet, out, heap, blocks, regs, budget)
 }
 
-// Tries the rooms from a size on. It calls itself for the next size, as run_from does and for the same
+// Tries the rooms from a size on. It calls itself for the next size, as over_room does and for the same
 // reason: a short packet does not make the longest room's stack frame.
 pub fn in_room(
     size: u32,

@@ -1,24 +1,22 @@
 // vans_run: the bare machine on byte buffers.
 use crate::answers::answer;
+use crate::buffers::RUN;
+use crate::buffers::over_room;
 use crate::words::fill;
+use crate::words::fill_front;
 use crate::words::spill;
 use machine::numbers::BAD_SIZE;
 use machine::numbers::CODE_TOO_LONG;
-use machine::numbers::CODE_WORDS;
-use machine::numbers::HEAP_WORDS;
 ghost use mathlib.Core.Path.{_≡_};
-ghost use Prim.Native.Nat.{_*_};
+ghost use Prim.Native.Nat.{_*_, _≤_};
 ghost use lib.ListN.{length};
-ghost use Rattle.machine.specs.Numbers.{CODE-WORDS, HEAP-WORDS};
 ghost use Rattle.machine.specs.Run.{runOf};
 ghost use Rattle.desk.specs.Bytes.{wordsOf, bytesOf};
-ghost use Rattle.desk.specs.RunCall.{REGS-BYTES, SMALL-WORDS, Whole, runCall, raggedOf, borderOf, inBytes, runBytesOf, vansRunOf};
+ghost use Rattle.desk.specs.RunCall.{REGS-BYTES, runCall, raggedOf, borderOf, inBytes, runBytesOf, vansRunOf};
+ghost use Rattle.desk.specs.Work.{Whole, Lent};
 
 // The sixteen registers in bytes.
 pub const REGS_BYTES: usize = 64;
-
-// The largest code and heap, in words, that a call on small buffers makes room for.
-pub const SMALL_WORDS: usize = 64;
 
 // The refusal of buffers of so many bytes, n being the machine's own.
 fn ragged(n: u8, code: usize, heap: usize, regs: usize) -> u8
@@ -71,8 +69,7 @@ pub fn run_over(
     heap: &mut [u8],
     regs: &mut [u8],
 ) -> u64
-    requires { ⌜ length (now heap) ≡ length (now h) * 4 ⌝ }
-    requires { ⌜ length (now regs) ≡ REGS-BYTES ⌝ }
+    requires { ⌜ Lent (length (now h)) (length (now heap)) (length (now regs)) ⌝ }
     ensures { λ a. ⌜ runCall a (now (heap .exit)) (now (regs .exit)) ≡ inBytes (runOf (now (c .entry)) (now (h .entry)) r budget) ⌝ }
 {
     let ran = machine::run(c, h, r, budget);
@@ -83,100 +80,25 @@ pub fn run_over(
     answer(state.status, 0, ran.count)
 }
 
-// Copies the buffers into the words c and h, and runs over these.
-fn run_in(
-    c: &mut [u32],
+// Copies the buffers into rooms for their words, and runs over these.
+pub fn run_in(
+    t: &mut [u32],
     h: &mut [u32],
     code: &[u8],
     heap: &mut [u8],
     regs: &mut [u8],
     budget: u32,
 ) -> u64
-    requires { ⌜ length (now code) ≡ length (now c) * 4 ⌝ }
-    requires { ⌜ length (now heap) ≡ length (now h) * 4 ⌝ }
-    requires { ⌜ length (now regs) ≡ REGS-BYTES ⌝ }
+    requires { ⌜ length (now code) ≤ length (now t) * 4 ⌝ }
+    requires { ⌜ length (now heap) ≤ length (now h) * 4 ⌝ }
+    requires { ⌜ Whole (length (now code)) (length (now heap)) (length (now regs)) ⌝ }
     ensures { λ a. ⌜ runCall a (now (heap .exit)) (now (regs .exit)) ≡ runBytesOf (now (code .entry)) (now (heap .entry)) (now (regs .entry)) budget ⌝ }
 {
-    fill(code, c);
-    fill(heap, h);
-    run_over(c, h, registers(regs), budget, heap, regs)
-}
-
-// Room for the words of a call. Clearing room for the largest heap takes longer than a short run, so
-// there are three sizes.
-
-pub fn small_room() -> [u32; SMALL_WORDS]
-    ensures { λ r. ⌜ length r ≡ SMALL-WORDS ⌝ }
-{
-    [0; SMALL_WORDS]
-}
-
-pub fn code_room() -> [u32; CODE_WORDS]
-    ensures { λ r. ⌜ length r ≡ CODE-WORDS ⌝ }
-{
-    [0; CODE_WORDS]
-}
-
-pub fn heap_room() -> [u32; HEAP_WORDS]
-    ensures { λ r. ⌜ length r ≡ HEAP-WORDS ⌝ }
-{
-    [0; HEAP_WORDS]
-}
-
-fn run_small(code: &[u8], heap: &mut [u8], regs: &mut [u8], budget: u32) -> u64
-    requires { ⌜ Whole SMALL-WORDS SMALL-WORDS (length (now code)) (length (now heap)) (length (now regs)) ⌝ }
-    ensures { λ a. ⌜ runCall a (now (heap .exit)) (now (regs .exit)) ≡ runBytesOf (now (code .entry)) (now (heap .entry)) (now (regs .entry)) budget ⌝ }
-{
-    let mut c = small_room();
-    let mut h = small_room();
+    fill_front(code, t);
+    fill_front(heap, h);
     let n = code.len() / 4;
     let m = heap.len() / 4;
-    run_in(&mut c[..n], &mut h[..m], code, heap, regs, budget)
-}
-
-fn run_middle(code: &[u8], heap: &mut [u8], regs: &mut [u8], budget: u32) -> u64
-    requires { ⌜ Whole CODE-WORDS CODE-WORDS (length (now code)) (length (now heap)) (length (now regs)) ⌝ }
-    ensures { λ a. ⌜ runCall a (now (heap .exit)) (now (regs .exit)) ≡ runBytesOf (now (code .entry)) (now (heap .entry)) (now (regs .entry)) budget ⌝ }
-{
-    let mut c = code_room();
-    let mut h = code_room();
-    let n = code.len() / 4;
-    let m = heap.len() / 4;
-    run_in(&mut c[..n], &mut h[..m], code, heap, regs, budget)
-}
-
-fn run_large(code: &[u8], heap: &mut [u8], regs: &mut [u8], budget: u32) -> u64
-    requires { ⌜ Whole CODE-WORDS HEAP-WORDS (length (now code)) (length (now heap)) (length (now regs)) ⌝ }
-    ensures { λ a. ⌜ runCall a (now (heap .exit)) (now (regs .exit)) ≡ runBytesOf (now (code .entry)) (now (heap .entry)) (now (regs .entry)) budget ⌝ }
-{
-    let mut c = code_room();
-    let mut h = heap_room();
-    let n = code.len() / 4;
-    let m = heap.len() / 4;
-    run_in(&mut c[..n], &mut h[..m], code, heap, regs, budget)
-}
-
-// Tries the rooms from a size on: 0 small, 1 middle, then large. A size that is too small calls this
-// function again for the next, so that a small call does not make the large room's stack frame.
-fn run_from(size: u32, code: &[u8], heap: &mut [u8], regs: &mut [u8], budget: u32) -> u64
-    requires { ⌜ Whole CODE-WORDS HEAP-WORDS (length (now code)) (length (now heap)) (length (now regs)) ⌝ }
-    ensures { λ a. ⌜ runCall a (now (heap .exit)) (now (regs .exit)) ≡ runBytesOf (now (code .entry)) (now (heap .entry)) (now (regs .entry)) budget ⌝ }
-{
-    if size == 0 {
-        if code.len() <= SMALL_WORDS * 4 {
-            if heap.len() <= SMALL_WORDS * 4 {
-                return run_small(code, heap, regs, budget);
-            }
-        }
-        return run_from(1, code, heap, regs, budget);
-    }
-    if size == 1 {
-        if heap.len() <= CODE_WORDS * 4 {
-            return run_middle(code, heap, regs, budget);
-        }
-        return run_from(2, code, heap, regs, budget);
-    }
-    run_large(code, heap, regs, budget)
+    run_over(&t[..n], &mut h[..m], registers(regs), budget, heap, regs)
 }
 
 // Runs a code over a heap with the given registers, each lent as bytes. The answer holds the
@@ -188,7 +110,8 @@ pub extern "C" fn vans_run(code: &[u8], heap: &mut [u8], regs: &mut [u8], budget
 {
     let refused = border(code.len(), heap.len(), regs.len(), budget);
     if refused == 0 {
-        return run_from(0, code, heap, regs, budget);
+        let mut no_code = [0u8; 1];
+        return over_room(0, RUN, &[0u32; 1], &mut no_code, code, heap, regs, budget);
     }
     answer(refused, 0, 0)
 }

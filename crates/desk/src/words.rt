@@ -1,7 +1,8 @@
 // Words as bytes, lowest first: buffers of bytes copied to buffers of words and back.
 ghost use mathlib.Core.Path.{_≡_};
-ghost use Prim.Native.Nat.{_*_};
-ghost use lib.ListN.{length};
+ghost use Prim.Native.Nat.{_*_, _/_, _%_, _≤_};
+ghost use mathlib.Core.List.{_++_};
+ghost use lib.ListN.{length, drop};
 ghost use Rattle.desk.specs.Bytes.{wordFrom, wordsOf, bytesOf};
 
 // The word of four bytes.
@@ -24,6 +25,16 @@ pub fn fill(from: &[u8], to: &mut [u32])
     }
 }
 
+// Copies the bytes into the front of a room that has as many words.
+pub fn fill_front(from: &[u8], to: &mut [u32])
+    requires { ⌜ length (now from) % 4 ≡ 0 ⌝ }
+    requires { ⌜ length (now from) ≤ length (now to) * 4 ⌝ }
+    ensures { λ _. ⌜ now (to .exit) ≡ wordsOf (now (from .entry)) ++ drop (length (now (from .entry)) / 4) (now (to .entry)) ⌝ }
+{
+    let n = from.len() / 4;
+    fill(from, &mut to[..n]);
+}
+
 // Copies the words into the bytes.
 pub fn spill(from: &[u32], to: &mut [u8])
     requires { ⌜ length (now to) ≡ length (now from) * 4 ⌝ }
@@ -39,4 +50,13 @@ pub fn spill(from: &[u32], to: &mut [u8])
         to[k + 3] = (w / 16777216 % 256) as u8;
         i += 1;
     }
+}
+
+// Copies the words into the front of a buffer that they fit.
+pub fn spill_front(from: &[u32], to: &mut [u8])
+    requires { ⌜ length (now from) * 4 ≤ length (now to) ⌝ }
+    ensures { λ _. ⌜ now (to .exit) ≡ bytesOf (now (from .entry)) ++ drop (length (now (from .entry)) * 4) (now (to .entry)) ⌝ }
+{
+    let end = from.len() * 4;
+    spill(from, &mut to[..end]);
 }

@@ -1,13 +1,13 @@
 -- Laws of the desk call for the proofs of its code, one for each way through it.
-use Prim.Native.Nat.{ℕ, _*_, _%_, _<_, _≤_}
+use Prim.Native.Nat.{ℕ, _%_, _<_, _≤_}
 use native.Mathlib.Omega.{arith}
-use mathlib.Core.Path.{_≡_, refl, sym, ap, subst, _∙_}
+use mathlib.Core.Path.{_≡_, refl, sym, ap, _∙_}
 use mathlib.Core.Bool.{Bool, true, false}
 use mathlib.Core.List.{List, _++_}
 use lib.ListN.{length, take, drop}
 use lib.Seq.{length-take-le, take-at}
-use Rattle.choice.specs.Pick.{pick, if-less, if-equal, each-way, is-less, not-less, is-equal, not-equal}
-use Rattle.machine.specs.Numbers.{BAD-SIZE, BUDGET-TOO-LARGE, CODE-WORDS, HEAP-WORDS, BUDGET}
+use Rattle.choice.specs.Pick.{if-less, if-equal, each-way, is-less, not-less, is-equal, not-equal}
+use Rattle.machine.specs.Numbers.{HEAP-WORDS, BUDGET}
 use Rattle.machine.specs.declared.table.State.{State}
 use Rattle.machine.specs.Step.{machineOf}
 use Rattle.machine.specs.Run.{Outcome, outcomeAt, runOf}
@@ -22,7 +22,7 @@ use Rattle.checker.specs.CheckLaws.{check-answer, check-count, check-numbers}
 use Rattle.eraser.specs.Erase.{neededOf, addressesOf, codeOf, Erased, erasedBy, eraseOf, eraseItems}
 use Rattle.eraser.specs.PassLaws.{code-length}
 use Rattle.start.specs.declared.faults.Fault.{Fault}
-use Rattle.start.specs.Start.{faultOf, passed, orElse, startOf}
+use Rattle.start.specs.Start.{faultOf, orElse, startOf}
 use Rattle.service.specs.declared.serving.Service.{Service}
 use Rattle.service.specs.Numbers.{DOES-NOT-FIT, BLOCK-WORDS}
 use Rattle.service.specs.Desk.{rightSizes, sizesOf, laterFault, codeFor, ranOf, DeskCall, deskCall, serviceOf, refusedCall, ranCall, serveBy, deskBy, deskOf}

@@ -1,4 +1,4 @@
--- `serve_bytes` refuses by sizes, or opens the buffers.
+-- `serve_bytes` refuses by sizes, or starts over the buffers.
 use Rattle.desk.specs.VansDeskLaws.{servings}
 use borrow.Author.Needs.{needs}
 use Rattle.desk.proofs.desk_bytes.serve_bytes.Statement.{statement}

@@ -1,7 +1,6 @@
 -- `whole`: each branch is a case of the definition.
 use Rattle.choice.specs.Pick.{cases}
 use Rattle.desk.specs.VansDesk.{wholeOf}
-use Rattle.desk.specs.VansDeskLaws.{readies, erasings, starts, opens, servings}
 use borrow.Author.Needs.{needs}
 use Rattle.desk.proofs.desk_bytes.whole.Statement.{statement}
 use Rattle.desk.proofs.desk_bytes.whole.Tie as tie

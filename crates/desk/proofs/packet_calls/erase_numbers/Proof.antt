@@ -1,5 +1,5 @@
 -- `erase_numbers` erases into a room that holds any code.
-use Rattle.desk.specs.CallLaws.{codes}
+use Rattle.desk.specs.EraseCallLaws.{codes}
 use borrow.Author.Needs.{needs}
 use Rattle.desk.proofs.packet_calls.erase_numbers.Statement.{statement}
 use Rattle.desk.proofs.packet_calls.erase_numbers.Tie as tie

@@ -10,6 +10,8 @@ read-in-spec =
     (tie.spec
     (λ c κs. search needs)
     (λ c. search needs)
+    (λ c. search (reads, needs))
+    (λ c. search (reads, needs))
     (λ c κs. search (reads, needs))
     (λ c. search needs)
     (λ c. search (reads, needs))

@@ -1,4 +1,4 @@
--- `task_in`: each branch is a task.
+-- `task_in` reads, or checks first.
 use Rattle.desk.specs.TaskLaws.{tasks}
 use borrow.Author.Needs.{needs}
 use Rattle.desk.proofs.packet_calls.task_in.Statement.{statement}
@@ -8,13 +8,6 @@ pub task-in-spec : {M : Type 1} → statement M
 task-in-spec =
     tie.close
     (tie.spec
-    (λ c κs. search needs)
-    (λ c. search needs)
-    (λ c. search needs)
-    (λ c. search (tasks, needs))
-    (λ c κs. search needs)
-    (λ c. search needs)
-    (λ c. search (tasks, needs))
     (λ c κs. search needs)
     (λ c. search needs)
     (λ c. search needs)

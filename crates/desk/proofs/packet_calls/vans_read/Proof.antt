@@ -1,5 +1,4 @@
--- `vans_read` answers 6, or is its task.
-use Rattle.desk.specs.ReadCallLaws.{reads}
+-- `vans_read` is its task.
 use Rattle.desk.specs.TaskLaws.{calls}
 use borrow.Author.Needs.{needs}
 use Rattle.desk.proofs.packet_calls.vans_read.Statement.{statement}
@@ -9,11 +8,9 @@ pub vans-read-spec : {M : Type 1} → statement M
 vans-read-spec =
     tie.close
     (tie.spec
-    (λ c κs. search needs)
-    (λ c. search (reads, calls, needs))
     (λ c. search needs)
     (λ c. search needs)
     (λ c. search needs)
     (λ c κs. search needs)
     (λ c. search needs)
-    (λ c. search (reads, calls, needs)))
+    (λ c. search (calls, needs)))

@@ -1,5 +1,4 @@
 -- `border` is `ragged` of the machine's own refusal.
-use Rattle.choice.specs.Pick.{cases}
 use borrow.Author.Needs.{needs}
 use Rattle.desk.proofs.run_call.border.Statement.{statement}
 use Rattle.desk.proofs.run_call.border.Tie as tie

@@ -1,5 +1,7 @@
 -- `run_in` runs over the words of the buffers.
-use Rattle.desk.specs.RunCallLaws.{in-bytes, of-bytes}
+use Rattle.desk.specs.WorkLaws.{heap-lent}
+use Rattle.desk.specs.ByteLaws.{filleds}
+use Rattle.desk.specs.RunCallLaws.{of-bytes}
 use borrow.Author.Needs.{needs}
 use Rattle.desk.proofs.run_call.run_in.Statement.{statement}
 use Rattle.desk.proofs.run_call.run_in.Tie as tie
@@ -10,10 +12,14 @@ run-in-spec =
     (tie.spec
     (λ c κs. search needs)
     (λ c κs. search needs)
+    (λ c. search needs)
+    (λ c. search (filleds, of-bytes, needs))
+    (λ c. search needs)
+    (λ c. search (filleds, of-bytes, needs))
     (λ c κs. search needs)
-    (λ c κs. search needs)
+    (λ c κs. search (heap-lent, needs))
     (λ c. search needs)
     (λ c. search needs)
     (λ c. search needs)
     (λ c. search needs)
-    (λ c. search (in-bytes, of-bytes, needs)))
+    (λ c. search (filleds, of-bytes, needs)))

@@ -1,5 +1,5 @@
 -- `run_over` hands heap and registers back in bytes.
-use Rattle.desk.specs.RunCallLaws.{in-bytes, of-bytes}
+use Rattle.desk.specs.RunCallLaws.{in-bytes}
 use borrow.Author.Needs.{needs}
 use Rattle.desk.proofs.run_call.run_over.Statement.{statement}
 use Rattle.desk.proofs.run_call.run_over.Tie as tie
@@ -15,4 +15,4 @@ run-over-spec =
     (λ c. search needs)
     (λ c. search needs)
     (λ c. search needs)
-    (λ c. search (in-bytes, of-bytes, needs)))
+    (λ c. search (in-bytes, needs)))

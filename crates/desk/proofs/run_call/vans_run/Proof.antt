@@ -9,6 +9,8 @@ vans-run-spec =
     tie.close
     (tie.spec
     (λ c κs. search needs)
+    (λ c. search needs)
+    (λ c. search needs)
     (λ c κs. search (calls, needs))
     (λ c. search needs)
     (λ c. search needs)

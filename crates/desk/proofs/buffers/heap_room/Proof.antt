@@ -2,8 +2,8 @@
 use Prim.Native.Nat.{ℕ}
 use lib.ListN.{length-replicate}
 use Rattle.machine.specs.Numbers.{HEAP-WORDS}
-use Rattle.desk.proofs.run_call.heap_room.Statement.{statement}
-use Rattle.desk.proofs.run_call.heap_room.Tie as tie
+use Rattle.desk.proofs.buffers.heap_room.Statement.{statement}
+use Rattle.desk.proofs.buffers.heap_room.Tie as tie
 
 returns : tie.Need-returns
 unfolding HEAP-WORDS

@@ -2,8 +2,8 @@
 use Prim.Native.Nat.{ℕ}
 use lib.ListN.{length-replicate}
 use Rattle.machine.specs.Numbers.{CODE-WORDS}
-use Rattle.desk.proofs.run_call.code_room.Statement.{statement}
-use Rattle.desk.proofs.run_call.code_room.Tie as tie
+use Rattle.desk.proofs.buffers.code_room.Statement.{statement}
+use Rattle.desk.proofs.buffers.code_room.Tie as tie
 
 returns : tie.Need-returns
 unfolding CODE-WORDS
