@@ -1,5 +1,8 @@
 // The SIF checker: any packet comes in; that it is accepted, or the first fault with its number and
 // place, comes out. Each item is judged by crate rules. Read specs/Walk.antt first.
+
+#![tactic(auto)]
+
 mod blocks;
 mod fields;
 mod items;

@@ -1,5 +1,8 @@
 // The machine's demonstration: 01's bench pieces K1, K10, K11 and K15 on the proved machine, step by
 // step and as runs. What it prints is compared with the file stdout.
+
+#![tactic(auto)]
+
 use libc::STDOUT_FILENO;
 use machine::State;
 use machine::numbers::RUNNING;

@@ -1,5 +1,8 @@
 // The C border: calls on numbers and byte buffers, over the proved crates below. Read specs/RunCall.antt
 // first.
+
+#![tactic(auto)]
+
 mod answers;
 mod buffers;
 mod desk_bytes;

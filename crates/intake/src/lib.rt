@@ -1,6 +1,9 @@
 // The packet on standard input and its line on standard output, for every program that judges one: what meets the
 // outside. What is read no contract can say; that it stands in the front of the buffer is promised. The line is
 // made by the crate `lines`.
+
+#![tactic(auto)]
+
 ghost use Rattle.std.specs.Prelude.{◌≡◌, ◌+◌, length};
 ghost use Rattle.listing.specs.Limits.{BYTES};
 ghost use Rattle.lines.specs.Line.{Front};

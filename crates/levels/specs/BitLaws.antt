@@ -1,8 +1,8 @@
 -- Laws of and and or that the kit does not have, each by induction on the halves of its first number: what holds of the lowest bits and of the rest holds of the whole.
-use Rattle.std.specs.Prelude.{ℕ, zero, suc, ◌+◌, ◌*◌, ◌/◌, ◌%◌, ◌<◌, ◌≤◌, min, max, ◌≡◌, refl}
+use Rattle.std.specs.Prelude.{ℕ, zero, ◌/◌, ◌%◌, min, max, ◌≡◌}
 use Rattle.std.proofs.Common.{arith, sym, ap, ◌∙◌}
 use Rattle.std.proofs.Math.Arith.{bin_ind}
-use Rattle.std.specs.Int.Bits.{bit_and, bit_or, and_step, or_step, and_zero_l, or_zero_l, and_zero_r}
+use Rattle.std.specs.Int.Bits.{bit_and, bit_or, and_step, or_step, and_zero_l, or_zero_l}
 
 -- the halves of an and and of an or
 and_half : (a b : ℕ) → bit_and a b / 2 ≡ bit_and (a / 2) (b / 2)

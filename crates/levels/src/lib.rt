@@ -1,5 +1,8 @@
 // Security levels as sets of eight compartments: the order by mask, the join by or.
 // Read specs/Order.antt first: what an order of levels is.
+
+#![tactic(auto)]
+
 ghost use Rattle.std.specs.Prelude.{◌≡◌};
 ghost use Rattle.levels.specs.Sets.{below_of, join_of};
 

@@ -1,5 +1,8 @@
 // What a listing is, and the reader of packets: any bytes come in; the listing's numbers in order, or a
 // named refusal with its place, come out. Read specs/Grammar.antt first.
+
+#![tactic(auto)]
+
 mod grammar;
 mod items;
 pub mod limits;

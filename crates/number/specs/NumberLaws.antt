@@ -1,6 +1,6 @@
 -- Laws for the loop that reads a number: one for each way through its body. `groups` holds them for a search.
 use Rattle.std.specs.Prelude.{ℕ, zero, suc, ◌+◌, ◌-◌, ◌*◌, ◌%◌, ◌^◌, ◌<◌, ◌≤◌, ◌≡◌, List, ltb, eqb, length, get_or}
-use Rattle.std.proofs.Common.{add_comm, mul_comm, mul-le-mul, le_of_lt, lt_of_le_of_lt, pow-suc, subst, ◌∙◌, Fits, lit<, ltb-true}
+use Rattle.std.proofs.Common.{add_comm, mul_comm, mul-le-mul, le_of_lt, lt_of_le_of_lt, pow-suc, ◌∙◌, Fits, lit<, ltb-true}
 use Rattle.std.proofs.Math.Nat.{pow-le-pow_right}
 use native.Mathlib.Omega.{arith}
 use Rattle.std.proofs.Math.Path.{refl, sym, ap}

@@ -1,5 +1,8 @@
 // One number of a packet: groups of seven bits, lowest group first, shortest form, at most five
 // bytes, below 2^32. Read specs/Number.antt first.
+
+#![tactic(auto)]
+
 ghost use Rattle.std.specs.Prelude.{◌≡◌, ◌+◌, ◌*◌, ◌%◌, ◌≤◌, ◌<◌, ◌^◌};
 ghost use Rattle.number.specs.Number.{read_of, last_of, malformed_of, CONTINUES};
 

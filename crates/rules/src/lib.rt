@@ -1,5 +1,8 @@
 // The current context and the typing rules: for an item in a context, its first refusal. The walk that goes
 // from item to item is the checker's. Read specs/Rules.antt first.
+
+#![tactic(auto)]
+
 mod contexts;
 pub mod numbers;
 mod rules;

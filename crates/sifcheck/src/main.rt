@@ -1,5 +1,8 @@
 // The checking program: reads a packet from standard input and prints the line `ACCEPTED` or
 // `REFUSED n AT p`. The line is made by the crate `lines`, and read and printed by `intake`.
+
+#![tactic(auto)]
+
 use intake::{answer, packet_room};
 
 fn main() {

@@ -2,6 +2,9 @@
 // that is a refusal says below it what was refused and why. The line and the verdict are the proved ones; the
 // words below are made from the packet's numbers and decide nothing. Read items.rt first, and faults.rt for
 // packets that hold no listing.
+
+#![tactic(auto)]
+
 mod blocks;
 mod dues;
 mod faults;
