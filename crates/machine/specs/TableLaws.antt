@@ -5,11 +5,10 @@
 -- `registers`, `table` and `opcodes` hold them for a search.
 use Rattle.std.specs.Prelude.{ℕ, suc, ◌+◌, ◌-◌, ◌<◌, ◌≤◌, ◌≡◌, length, ltb, eqb}
 use Rattle.std.proofs.Math.Path.{refl, ap}
-use Rattle.std.proofs.Common.{sym, ◌∙◌}
+use Rattle.std.proofs.Common.{sym, ◌∙◌, arith}
 use mathlib.Core.List.{List}
 use Rattle.std.proofs.Math.ListN.{get_or, set}
 use Rattle.std.proofs.Math.Arith.{lt_of_le-ne}
-use borrow.Author.Rules.{zero≤}
 use Rattle.choice.specs.Pick.{is_equal, not_equal, is_less, not_less}
 use Rattle.machine.specs.Numbers.{HALTED, NO_WORD, BAD_WORD, BAD_ADDRESS, RUNNING}
 use Rattle.machine.specs.Arithmetic.{compute_of, extend_of}
@@ -112,7 +111,7 @@ module _ (regs : List ℕ) (pc : ℕ) (heap : List ℕ) where
       → (v ≡ 8 → ⊥) → (v ≡ 9 → ⊥) → (v ≡ 10 → ⊥) → (v ≡ 11 → ⊥) → (v ≡ 12 → ⊥) → (v ≡ 13 → ⊥) → (v ≡ 14 → ⊥)
       → machine_at regs pc BAD_WORD heap ≡ does_of (kind_at op w) regs pc heap
   op_bad v op w e n0 n1 n2 n3 n4 n5 n6 n7 n8 n9 n10 n11 n12 n13 n14 =
-      let low : 5 ≤ v = past n4 (past n3 (past n2 (past n1 (past n0 zero≤)))) in
+      let low : 5 ≤ v = past n4 (past n3 (past n2 (past n1 (past n0 (omega arith))))) in
       let middle : 10 ≤ v = past n9 (past n8 (past n7 (past n6 (past n5 low)))) in
       let high : 15 ≤ v = past n14 (past n13 (past n12 (past n11 (past n10 middle)))) in
       as_kind _ bad (kind_at op w) (op_none v op w e high) does_bad

@@ -1,7 +1,7 @@
 -- The tests of the start check are the statements of Meaning: each is clear of a fault exactly where its statement holds.
 use Rattle.std.specs.Prelude.{ℕ, zero, suc, ◌+◌, ◌-◌, ◌<◌, ◌≤◌, ◌≡◌, refl, ◌↔◌, Bool, true, false, List, [], ◌∷◌, length, get_or, eqb}
 use Rattle.std.proofs.Common.{arith, sym, ap, subst, ◌∙◌, eqb-true, eq-eqb}
-use Rattle.std.proofs.Math.Logic.{Iff·trans}
+use Rattle.std.proofs.Math.Logic.{Iff.trans}
 use Rattle.choice.specs.Pick.{pick, is_true, is_equal, each_way, if_equal, if_less}
 use Rattle.listing.specs.Listing.{Field, Register, Each}
 use Rattle.start.specs.declared.faults.Fault.{Fault}
@@ -67,7 +67,7 @@ each_same P Q s [] = (λ e. tt, λ e. tt)
 each_same P Q s (x ∷ l) = (λ e. ((s x).0 e.0, (each_same P Q s l).0 e.1), λ e. ((s x).1 e.0, (each_same P Q s l).1 e.1))
 
 pub clear_each : {A : Type 0} (f : A → Fault) (Q : A → Type 0) → ((x : A) → Clear (f x) ↔ Q x) → (l : List A) → Clear (first_of f l) ↔ Each Q l
-clear_each f Q s l = Iff·trans (first_clear f l) (each_same (λ x. Clear (f x)) Q s l)
+clear_each f Q s l = Iff.trans (first_clear f l) (each_same (λ x. Clear (f x)) Q s l)
 
 -- the base of a block
 pub row_is : (a s : ℕ) (r : Row) → (is_row a s r ≡ true) ↔ ((r.base ≡ a) × (r.shape ≡ s))
@@ -134,7 +134,7 @@ module _ (shapes : List (List Field)) (rows : List Row) (heap : List ℕ) where
 
   pub word_clear : (w : BlockWord) → Clear (word_fault rows heap w) ↔ HoldsWord w
   unfolding word_fault
-  word_clear w = Iff·trans (unless_clear _ _ _ (omega arith)) (kind_is rows w.field.kind (get_or heap w.address 0))
+  word_clear w = Iff.trans (unless_clear _ _ _ (omega arith)) (kind_is rows w.field.kind (get_or heap w.address 0))
 
   pub block_clear : (r : Row) → Clear (block_fault shapes rows heap r) ↔ HoldsRow r
   unfolding block_fault
@@ -177,7 +177,7 @@ module _ (shapes : List (List Field)) (rows : List Row) (heap : List ℕ) where
 -- 33: r0 and the listed registers
 pub register_clear : (rows : List Row) (regs : List ℕ) (r : Register) → Clear (register_fault rows regs r) ↔ HoldsRegister rows regs r
 unfolding register_fault
-register_clear rows regs r = Iff·trans (unless_clear _ _ _ (omega arith)) (kind_is rows r.kind (get_or regs r.index 0))
+register_clear rows regs r = Iff.trans (unless_clear _ _ _ (omega arith)) (kind_is rows r.kind (get_or regs r.index 0))
 
 pub registers_clear : (rows : List Row) (listed : List Register) (regs : List ℕ) → Clear (registers_fault rows listed regs) ↔ GoodRegisters rows listed regs
 unfolding registers_fault

@@ -1,0 +1,19 @@
+-- `read_numbers` reads a packet: the whole reading is what is left of it from each number on.
+use Rattle.listing.specs.PacketLaws.{packets, got_behind}
+use Prim.Native.Nat.{◌+◌, ◌-◌, ◌<◌, ◌≤◌}
+use mathlib.Core.Path.{◌≡◌}
+use lib.ListN.{length, length-set}
+use native.Mathlib.Omega.{arith}
+use Rattle.listing.specs.Packet.{packet_from}
+use borrow.Author.Rules.{rules}
+use Rattle.listing.proofs.reading.read_numbers.Given as goal
+
+abbrev pub invariant-loop-due : goal.invariant-loop-due
+invariant-loop-due l =
+    (packet_from (length l.packet + 1) l.packet l.initial.due l.initial.at l.initial.numbers l.initial.count ≡ packet_from (length l.packet + 1 - l.count) l.packet l.due l.at l.numbers l.count)
+    × (l.count ≤ l.at)
+    × (l.at ≤ length l.packet)
+    × (length l.numbers ≡ length l.initial.numbers)
+
+abbrev pub decreases-loop-due : goal.decreases-loop-due
+decreases-loop-due l = length l.packet - l.at

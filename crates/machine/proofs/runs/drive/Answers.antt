@@ -1,0 +1,23 @@
+-- `drive` runs the machine: the whole run is what is left of it from each turn on.
+use Prim.Native.Nat.{◌-◌}
+use mathlib.Core.Path.{◌≡◌}
+use lib.ListN.{length, get_or}
+use Rattle.machine.specs.Numbers.{RUNNING}
+use Rattle.machine.specs.Step.{machine_at}
+use Rattle.machine.specs.Run.{outcome_from}
+use Rattle.machine.specs.RunLaws.{turns}
+use Rattle.machine.specs.R0Laws.{still_zero}
+use borrow.Author.Rules.{rules}
+use Rattle.machine.proofs.runs.drive.Goals as goal
+
+pub loop-count-preserved : goal.loop-count-preserved
+loop-count-preserved c = (search (turns, rules), cc, search (still_zero, rules))
+
+pub returns-then-status-eq-HALTED : goal.returns-then-status-eq-HALTED
+returns-then-status-eq-HALTED c = search (turns, rules)
+
+pub returns-else-status-eq-HALTED : goal.returns-else-status-eq-HALTED
+returns-else-status-eq-HALTED c = search (turns, rules)
+
+pub returns : goal.returns
+returns c = search (turns, rules)

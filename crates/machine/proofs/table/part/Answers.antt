@@ -1,0 +1,9 @@
+-- `part` takes four bits of a word: a mask of ones is a remainder.
+use lib.Bits.{and_mask, mask_lt}
+use native.Mathlib.Omega.{arith}
+use Prim.Native.Nat.{◌/◌, ◌^◌}
+use borrow.Author.Rules.{rules}
+use Rattle.machine.proofs.table.part.Goals as goal
+
+pub returns : goal.returns
+returns c = and_mask (c.args.w / 2 ^ c.args.at) 4
