@@ -1,0 +1,14 @@
+-- `items_place` goes from label to label: the place is the one behind the labels that are left.
+use Rattle.listing.specs.Parts.{behind_label, items_place}
+use Rattle.listing.specs.PlaceLaws.{Ahead, LABEL_NUMBERS, TOP_ITEMS_PLACE, places}
+use borrow.Author.Rules.{rules}
+use Rattle.listing.proofs.places.items_place.Goals as goal
+
+pub loop-left-init : goal.loop-left-init
+loop-left-init c = search (places, rules)
+
+pub loop-left-preserved : goal.loop-left-preserved
+loop-left-preserved c = search (places, rules)
+
+pub returns-clause-value : goal.returns-clause-value
+returns-clause-value c = search (places, rules)

@@ -1,0 +1,14 @@
+-- `labels_place` goes from shape to shape: the place is the one behind the shapes that are left.
+use Rattle.listing.specs.Parts.{behind_shape, labels_place}
+use Rattle.listing.specs.PlaceLaws.{Ahead, SHAPE_NUMBERS, TOP_LABELS_PLACE, places}
+use borrow.Author.Rules.{rules}
+use Rattle.listing.proofs.places.labels_place.Goals as goal
+
+pub loop-left-init : goal.loop-left-init
+loop-left-init c = search (places, rules)
+
+pub loop-left-preserved : goal.loop-left-preserved
+loop-left-preserved c = search (places, rules)
+
+pub returns-clause-value : goal.returns-clause-value
+returns-clause-value c = search (places, rules)
