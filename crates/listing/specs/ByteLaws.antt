@@ -1,14 +1,14 @@
 -- A packet is taken exactly where it is the bytes of a row of numbers that the grammar takes to its end, and its numbers are then that row. Each way is one induction, over the numbers or over the turns of the reader.
 use Prim.Native.Nat.{ℕ, zero, suc, ◌+◌, ◌^◌, ◌<◌, ◌≤◌, zero-le}
-use Rattle.std.proofs.Common.{add-zero, zero-add, subst, ◌∙◌, drop_of_length-le, length-append, length-drop, drop-drop, ltb-false}
+use Rattle.std.proofs.Common.{add-zero, zero-add, ◌∙◌, drop_of_length-le, length-append, length-drop, drop-drop, ltb-false}
 use native.Mathlib.Omega.{arith}
 use Rattle.std.proofs.Math.Path.{◌≡◌, refl, sym, ap}
-use Rattle.std.specs.Prelude.{Bool, true, false, get_or, ltb}
+use Rattle.std.specs.Prelude.{get_or, ltb}
 use Rattle.std.proofs.Math.Logic.{⊎_elim}
 use mathlib.Core.List.{List, [], ◌∷◌, ◌++◌}
 use Rattle.std.proofs.Math.ListN.{length, drop}
 use Rattle.std.proofs.Math.Seq.{drop-append_seam}
-use Rattle.choice.specs.Pick.{pick, either, is_less, not_less}
+use Rattle.choice.specs.Pick.{either, not_less}
 use Rattle.number.specs.declared.Found.{Found}
 use Rattle.number.specs.declared.Found.TheVariants.{Number, Ended, Malformed}
 use Rattle.number.specs.Number.{read_of}
@@ -21,8 +21,8 @@ use Rattle.listing.specs.declared.grammar.Due.TheVariants.{Next, End, Refused}
 use Rattle.listing.specs.declared.reading.Got.{Got}
 use Rattle.listing.specs.declared.reading.Got.TheVariants.{Took, Bad}
 use Rattle.listing.specs.declared.reading.Taken.{Taken}
-use Rattle.listing.specs.declared.reading.Taken.TheVariants.{Listing, Fault, NoRoom}
-use Rattle.listing.specs.Limits.{BYTES, ENDED, MALFORMED, LEFT_OVER, TOO_LONG}
+use Rattle.listing.specs.declared.reading.Taken.TheVariants.{Listing}
+use Rattle.listing.specs.Limits.{BYTES}
 use Rattle.listing.specs.Grammar.{next_of}
 use Rattle.listing.specs.Listing.{Each}
 use Rattle.listing.specs.Fold.{fold_of}

@@ -1,11 +1,11 @@
 -- A fault is the first: before its place stand numbers that the grammar takes, and at the place where reading stopped the next number is at fault, or bytes are left over.
 use Prim.Native.Nat.{ℕ, zero, suc, ◌+◌, ◌<◌, ◌≤◌, zero-le}
-use Rattle.std.proofs.Common.{arith, ◌∙◌, ⊎_elim, ltb-true, ltb-false}
+use Rattle.std.proofs.Common.{arith, ◌∙◌, ⊎_elim, ltb-true}
 use Rattle.std.proofs.Math.Path.{◌≡◌, refl, sym, ap, subst}
-use mathlib.Core.List.{List, [], ◌∷◌, ◌++◌, append_assoc}
+use mathlib.Core.List.{List, [], ◌++◌, append_assoc}
 use Rattle.std.proofs.Math.ListN.{length}
 use Rattle.std.specs.Prelude.{get_or, drop, ltb}
-use Rattle.choice.specs.Pick.{pick, either, not_less}
+use Rattle.choice.specs.Pick.{either, not_less}
 use Rattle.number.specs.declared.Found.{Found}
 use Rattle.number.specs.declared.Found.TheVariants.{Number, Ended, Malformed}
 use Rattle.number.specs.Number.{read_of}
@@ -18,8 +18,8 @@ use Rattle.listing.specs.declared.grammar.Due.TheVariants.{Next, End, Refused}
 use Rattle.listing.specs.declared.reading.Got.{Got}
 use Rattle.listing.specs.declared.reading.Got.TheVariants.{Took, Bad}
 use Rattle.listing.specs.declared.reading.Taken.{Taken}
-use Rattle.listing.specs.declared.reading.Taken.TheVariants.{Listing, Fault, NoRoom}
-use Rattle.listing.specs.Limits.{BYTES, ENDED, LEFT_OVER, TOO_LONG}
+use Rattle.listing.specs.declared.reading.Taken.TheVariants.{Fault}
+use Rattle.listing.specs.Limits.{BYTES, LEFT_OVER}
 use Rattle.listing.specs.Grammar.{next_of}
 use Rattle.listing.specs.Fold.{fold_of}
 use Rattle.listing.specs.Packet.{due_then, found_then, got_of, end_of, numbers_then, numbers_from, taken_then, taken_from, numbers_in, taken_of}

@@ -6,8 +6,8 @@ use Rattle.choice.specs.Pick.{is_less, not_less, is_equal, not_equal}
 use Rattle.listing.specs.declared.grammar.Wanted.{Wanted}
 use Rattle.listing.specs.declared.grammar.Wanted.TheVariants.{Edition, ShapeCount, FieldCount, FieldKind, FieldLevel, LabelCount, LabelLevel, StackLength, StackLabel, RegisterCount, RegisterIndex, RegisterKind, RegisterLevel, ItemCount, ItemNumber, OperandLabel, BranchRegister, OperandFirst, OperandSecond, OperandThird}
 use Rattle.listing.specs.declared.grammar.Due.{Due}
-use Rattle.listing.specs.declared.grammar.Due.TheVariants.{Next, End, Refused}
-use Rattle.listing.specs.Limits.{EDITION, SHAPES, FIELDS, LABELS, STACK, REGISTERS, ITEMS, TOP_LEVEL, TOP_PART, TOP_IMMEDIATE, TOP_ITEM, WRONG_EDITION, OUT_OF_RANGE}
+use Rattle.listing.specs.declared.grammar.Due.TheVariants.{Next, Refused}
+use Rattle.listing.specs.Limits.{EDITION, SHAPES, FIELDS, LABELS, STACK, REGISTERS, ITEMS, TOP_LEVEL, TOP_PART, TOP_ITEM, WRONG_EDITION, OUT_OF_RANGE}
 use Rattle.listing.specs.Grammar.{within_of, below_of, shapes_from, fields_from, labels_from, stack_from, registers_from, items_from, operands_from, next_of}
 
 module _ (due : Wanted) (n : ℕ) (r : Due) where

@@ -1,5 +1,5 @@
 -- The reading of an item: its number, and behind it the operands that the number asks for. `item_again`: it is made again from its row, so that no row is two items'. `item_size`: its number says how long the row is.
-use Rattle.std.specs.Prelude.{ℕ, ◌≤◌, ◌<◌, ◌≡◌, Bool, true, false, List, [], ◌∷◌, ◌++◌, length, get_or, ltb, eqb}
+use Rattle.std.specs.Prelude.{ℕ, ◌≤◌, ◌<◌, ◌≡◌, List, [], ◌∷◌, ◌++◌, length, eqb}
 use native.Mathlib.Omega.{arith}
 use Rattle.std.proofs.Math.Decide.{ℕ_discrete}
 use Rattle.std.proofs.Math.Path.{refl}

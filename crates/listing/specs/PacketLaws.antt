@@ -4,7 +4,7 @@ use native.Mathlib.Omega.{arith}
 use Rattle.std.proofs.Math.Path.{sym, ap}
 use Rattle.std.proofs.Common.{subst, ◌∙◌}
 use Rattle.std.proofs.Math.ListN.{length}
-use Rattle.choice.specs.Pick.{is_less, not_less, both}
+use Rattle.choice.specs.Pick.{is_less, not_less}
 use Rattle.number.specs.declared.Found.{Found}
 use Rattle.number.specs.declared.Found.TheVariants.{Number, Ended, Malformed}
 use Rattle.number.specs.Number.{read_of}
@@ -16,8 +16,8 @@ use Rattle.listing.specs.declared.grammar.Due.TheVariants.{Next, End, Refused}
 use Rattle.listing.specs.declared.reading.Got.{Got}
 use Rattle.listing.specs.declared.reading.Got.TheVariants.{Took, Bad}
 use Rattle.listing.specs.declared.reading.Taken.{Taken}
-use Rattle.listing.specs.declared.reading.Taken.TheVariants.{Listing, Fault, NoRoom}
-use Rattle.listing.specs.Limits.{BYTES, ENDED, MALFORMED, LEFT_OVER, TOO_LONG}
+use Rattle.listing.specs.declared.reading.Taken.TheVariants.{Fault, NoRoom}
+use Rattle.listing.specs.Limits.{BYTES, ENDED, MALFORMED, TOO_LONG}
 use Rattle.listing.specs.Grammar.{next_of}
 use Rattle.listing.specs.Packet.{Reading, reading_of, due_then, found_then, got_of, end_of, stored_then, packet_from, packet_of}
 

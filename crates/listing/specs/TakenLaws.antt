@@ -1,12 +1,12 @@
 -- What the reader leaves in a buffer, by the packet alone: its numbers in order in front, the old words behind. And what it answers lies within the packet.
-use Prim.Native.Nat.{ℕ, zero, suc, ◌+◌, ◌<◌, ◌≤◌, zero-le}
+use Prim.Native.Nat.{ℕ, zero, suc, ◌+◌, ◌≤◌, zero-le}
 use Rattle.std.proofs.Common.{le_refl, add-zero, add-one, arith, ◌∙◌}
 use Rattle.std.specs.Prelude.{◌≡◌, refl, List, [], ◌∷◌, ltb, set, drop}
 use Rattle.std.proofs.Math.Path.{sym, ap, subst}
 use Rattle.std.proofs.Math.ListN.{length, take}
 use Rattle.std.proofs.lemmas.List.Edits.{sets, sets-eq}
 use Rattle.std.proofs.Math.Seq.{take_at}
-use Rattle.choice.specs.Pick.{pick, both, either, is_less, not_less}
+use Rattle.choice.specs.Pick.{both, not_less}
 use Rattle.listing.specs.declared.grammar.Wanted.TheVariants.{Edition}
 use Rattle.listing.specs.declared.grammar.Due.{Due}
 use Rattle.listing.specs.declared.grammar.Due.TheVariants.{Next, End, Refused}
@@ -14,7 +14,7 @@ use Rattle.listing.specs.declared.reading.Got.{Got}
 use Rattle.listing.specs.declared.reading.Got.TheVariants.{Took, Bad}
 use Rattle.listing.specs.declared.reading.Taken.{Taken}
 use Rattle.listing.specs.declared.reading.Taken.TheVariants.{Listing, Fault, NoRoom}
-use Rattle.listing.specs.Limits.{BYTES, LEFT_OVER, TOO_LONG}
+use Rattle.listing.specs.Limits.{BYTES}
 use Rattle.listing.specs.Packet.{Reading, reading_of, got_of, end_of, stored_then, packet_from, packet_of, numbers_then, numbers_from, taken_then, taken_from, numbers_in, taken_of}
 use Rattle.listing.specs.PacketLaws.{Behind, got_placed}
 

@@ -1,7 +1,6 @@
 -- `behind_item` lies as far on as the item is long, which is no more than four numbers.
 use Rattle.listing.specs.PlaceLaws.{size_held}
 use native.Mathlib.Omega.{arith}
-use borrow.Author.Rules.{rules}
 use Rattle.listing.proofs.places.behind_item.Goals as goal
 
 pub overflow_add-result : goal.overflow_add-result

@@ -1,6 +1,5 @@
 -- `items_place` goes from label to label: the place is the one behind the labels that are left.
-use Rattle.listing.specs.Parts.{behind_label, items_place}
-use Rattle.listing.specs.PlaceLaws.{Ahead, LABEL_NUMBERS, TOP_ITEMS_PLACE, places}
+use Rattle.listing.specs.PlaceLaws.{places}
 use borrow.Author.Rules.{rules}
 use Rattle.listing.proofs.places.items_place.Goals as goal
 

@@ -1,6 +1,5 @@
 -- `labels_place` goes from shape to shape: the place is the one behind the shapes that are left.
-use Rattle.listing.specs.Parts.{behind_shape, labels_place}
-use Rattle.listing.specs.PlaceLaws.{Ahead, SHAPE_NUMBERS, TOP_LABELS_PLACE, places}
+use Rattle.listing.specs.PlaceLaws.{places}
 use borrow.Author.Rules.{rules}
 use Rattle.listing.proofs.places.labels_place.Goals as goal
 

@@ -1,7 +1,6 @@
 -- `labels_place` goes from shape to shape: the place is the one behind the shapes that are left.
 use Rattle.listing.specs.Parts.{behind_shape, labels_place}
-use Rattle.listing.specs.PlaceLaws.{Ahead, SHAPE_NUMBERS, TOP_LABELS_PLACE, places}
-use borrow.Author.Rules.{rules}
+use Rattle.listing.specs.PlaceLaws.{Ahead, SHAPE_NUMBERS, TOP_LABELS_PLACE}
 use Rattle.listing.proofs.places.labels_place.Given as goal
 
 abbrev pub invariant-loop-left : goal.invariant-loop-left

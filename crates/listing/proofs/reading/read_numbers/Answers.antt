@@ -1,10 +1,8 @@
 -- `read_numbers` reads a packet: the whole reading is what is left of it from each number on.
 use Rattle.listing.specs.PacketLaws.{packets, got_behind}
-use Prim.Native.Nat.{◌+◌, ◌-◌, ◌<◌, ◌≤◌}
-use mathlib.Core.Path.{◌≡◌}
+use Prim.Native.Nat.{◌<◌, ◌≤◌}
 use lib.ListN.{length, length-set}
 use native.Mathlib.Omega.{arith}
-use Rattle.listing.specs.Packet.{packet_from}
 use borrow.Author.Rules.{rules}
 use Rattle.listing.proofs.reading.read_numbers.Goals as goal
 
