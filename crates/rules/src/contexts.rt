@@ -9,7 +9,7 @@ use listing::limits::{REGISTERS, SHAPES, STACK, TOP_LEVEL};
 use listing::{at_most, number_at};
 
 // What a context says of a register: whether it is listed, and then its kind and level.
-#[derive(Drop)]
+#[derive(Clone, Copy)]
 pub struct Slot {
     pub listed: bool,
     pub kind: u8,
