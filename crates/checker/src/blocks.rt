@@ -15,7 +15,7 @@ use rules::numbers::{FIRST_STACK, NO_LABEL, PLACED_TWICE};
 use rules::{Held, jump, label_depth, unless};
 
 // Where the walk is: before the first item, behind an item that closed its block, or in a block.
-#[derive(Drop)]
+#[derive(Clone, Copy)]
 pub enum Block {
     Start,
     Closed,

@@ -77,7 +77,7 @@ pub fn changed(c: Held, rd: u32, kind: u8) -> Held
 }
 
 // A register that an item writes, 16 for none, and what is then said of it.
-#[derive(Drop)]
+#[derive(Clone, Copy)]
 pub struct Write {
     pub at: u32,
     pub kind: u8,

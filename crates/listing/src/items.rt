@@ -3,7 +3,7 @@ ghost use Rattle.std.specs.Prelude.{◌≡◌, ◌≤◌, get_or};
 ghost use Rattle.listing.specs.Parts.{item_of, item_at, size_of, count_of};
 
 // An item, its operands in the packet's order.
-#[derive(Drop)]
+#[derive(Clone, Copy)]
 pub enum Item {
     Halt,
     // L

@@ -17,14 +17,14 @@ pub struct Slot {
 }
 
 // A stack of labels: those from `top` on, the top one first.
-#[derive(Drop)]
+#[derive(Clone, Copy)]
 pub struct Stack {
     pub top: usize,
     pub cells: [u32; 16],
 }
 
 // The context.
-#[derive(Drop)]
+#[derive(Clone, Copy)]
 pub struct Held {
     pub level: u32,
     pub stack: Stack,

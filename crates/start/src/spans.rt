@@ -10,7 +10,7 @@ use listing::limits::{FIELDS, ITEMS, LABELS, REGISTERS, SHAPES, STACK};
 use listing::{Item, behind_label, behind_shape, count_at, item_at, items_place, labels_place};
 
 // So many parts from a place on.
-#[derive(Drop)]
+#[derive(Clone, Copy)]
 pub struct Span {
     pub at: u32,
     pub count: u32,
