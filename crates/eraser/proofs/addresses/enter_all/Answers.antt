@@ -1,7 +1,6 @@
 -- `enter_all` enters the labels' addresses: the whole table is what the items that are left make of it.
 use native.Mathlib.Omega.{arith}
-use Rattle.eraser.specs.Erase.{entered}
-use Rattle.eraser.specs.PassLaws.{Passing, passes, words_turn, needed_turn}
+use Rattle.eraser.specs.PassLaws.{passes, words_turn, needed_turn}
 use borrow.Author.Rules.{rules}
 use Rattle.eraser.proofs.addresses.enter_all.Goals as goal
 

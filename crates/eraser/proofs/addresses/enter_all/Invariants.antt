@@ -1,8 +1,6 @@
 -- `enter_all` enters the labels' addresses: the whole table is what the items that are left make of it.
-use native.Mathlib.Omega.{arith}
 use Rattle.eraser.specs.Erase.{entered}
-use Rattle.eraser.specs.PassLaws.{Passing, passes, words_turn, needed_turn}
-use borrow.Author.Rules.{rules}
+use Rattle.eraser.specs.PassLaws.{Passing}
 use Rattle.eraser.proofs.addresses.enter_all.Given as goal
 
 abbrev pub invariant-loop-left : goal.invariant-loop-left

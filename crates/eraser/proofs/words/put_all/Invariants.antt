@@ -1,7 +1,5 @@
 -- `put_all` writes the words of the kept items: the whole code is what the items that are left still write into it.
-use native.Mathlib.Omega.{arith}
-use Rattle.eraser.specs.PassLaws.{put_of, Passing, passes, words_turn, needed_turn, turn_fits}
-use borrow.Author.Rules.{rules}
+use Rattle.eraser.specs.PassLaws.{put_of, Passing}
 use Rattle.eraser.proofs.words.put_all.Given as goal
 
 abbrev pub invariant-loop-left : goal.invariant-loop-left
