@@ -1,7 +1,7 @@
 -- The tests of the start check are the statements of Meaning: each is clear of a fault exactly where its statement holds.
 use Rattle.std.specs.Prelude.{ℕ, zero, suc, ◌+◌, ◌-◌, ◌<◌, ◌≤◌, ◌≡◌, refl, ◌↔◌, Bool, true, false, List, [], ◌∷◌, length, get_or, eqb}
 use Rattle.std.proofs.Common.{arith, sym, ap, subst, ◌∙◌, eqb-true, eq-eqb}
-use Rattle.std.proofs.Math.Logic.{Iff.trans}
+use mathlib.Core.Logic.Iff
 use Rattle.choice.specs.Pick.{pick, is_true, is_equal, each_way, if_equal, if_less}
 use Rattle.listing.specs.Listing.{Field, Register, Each}
 use Rattle.start.specs.declared.faults.Fault.{Fault}
