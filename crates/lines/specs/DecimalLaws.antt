@@ -1,5 +1,5 @@
 -- A number's digits are those of a tenth of it, and its last digit.
-use Rattle.std.specs.Prelude.{ℕ, zero, suc, ◌+◌, ◌/◌, ◌%◌, ◌^◌, ◌<◌, ◌≤◌, ◌≡◌, refl, List, [], ◌∷◌, ◌++◌, ltb, length}
+use Rattle.std.specs.Prelude.{ℕ, zero, suc, ◌/◌, ◌%◌, ◌^◌, ◌<◌, ◌≤◌, ◌≡◌, refl, List, [], ◌∷◌, ◌++◌, ltb, length}
 use Rattle.std.proofs.Common.{pow-suc, arith, sym, ap, length-append}
 use Rattle.choice.specs.Pick.{pick, is_less, not_less, if_less}
 use Rattle.lines.specs.Decimal.{digit_of, digits_from, decimal_of}

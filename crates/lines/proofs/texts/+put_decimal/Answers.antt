@@ -1,0 +1,13 @@
+-- `put_decimal` puts the digits of a tenth of the number, and its last. Each call of itself is for a smaller number.
+use Rattle.std.proofs.Common.{rules}
+use Rattle.lines.specs.PutLaws.{puts}
+use Rattle.lines.proofs.texts.+put_decimal.Goals as goal
+
+pub returns-then-n-lt10-clause-out_after : goal.returns-then-n-lt10-clause-out_after
+returns-then-n-lt10-clause-out_after t c = search (puts, rules)
+
+pub returns-clause-out_after : goal.returns-clause-out_after
+returns-clause-out_after t c = search (puts, rules)
+
+pub returns-clause-near : goal.returns-clause-near
+returns-clause-near t c = search (puts, rules)
