@@ -11,7 +11,7 @@ use crate::limits::{
 // The number that is due, and what its range and the numbers behind it go by: the counts of shapes and
 // labels, to which kinds and labels are held; `more`, the shapes, labels or items that are still to
 // come after this one; and the parts of this one that are still to come after the one due.
-#[derive(Drop)]
+#[derive(Clone, Copy)]
 pub enum Wanted {
     Edition,
     ShapeCount,
