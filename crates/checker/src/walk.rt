@@ -1,7 +1,8 @@
 // The walk down the items, with the current context and the labels placed so far.
 ghost use Rattle.std.specs.Prelude.{◌≡◌, ◌≤◌, length};
 ghost use Rattle.levels.specs.Sets.{below_of, join_of};
-ghost use Rattle.listing.specs.Limits.{BYTES, LABELS};
+ghost use Rattle.listing.specs.Limits.{BYTES};
+ghost use Rattle.listing.specs.Limits;
 ghost use Rattle.listing.specs.Parts.{labels_in, listing_in, items_place};
 ghost use Rattle.listing.specs.PlaceLaws.{TOP_ITEMS_PLACE};
 ghost use Rattle.rules.specs.Rules.{first_failing};
@@ -26,7 +27,7 @@ pub struct Verdict {
 
 // The end of a list of so many items, whose first n labels are its own.
 fn end(block: Block, placed: [bool; 128], n: u32, at: u32) -> Verdict
-    requires { n ≤ LABELS }
+    requires { n ≤ Limits.LABELS }
     ensures { result ≡ or_else (first_failing (end_row n block placed)) at accepted }
 {
     let all = unless(NEVER_PLACED, all_placed(placed, n), 0);
@@ -55,7 +56,7 @@ fn walk_items(
     requires shapes_value { shapes.now ≡ shape_table numbers.now }
     requires labels_value { labels.now ≡ label_table numbers.now }
     requires n_value { n ≡ length (labels_in numbers.now) }
-    requires n_bound { n ≤ LABELS }
+    requires n_bound { n ≤ Limits.LABELS }
     requires place_value { place ≡ items_place numbers.now }
     requires place_bound { place ≤ TOP_ITEMS_PLACE }
     ensures { result ≡ walk_of below_of join_of (listing_in numbers.now) }

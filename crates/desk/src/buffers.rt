@@ -1,9 +1,10 @@
 // Rooms for the words of lent buffers: a heap, and a table, which is a code or the rows of blocks. `work`
 // says what is done over them.
 ghost use Rattle.std.specs.Prelude.{◌≡◌, ◌*◌, ◌≤◌, length};
-ghost use Rattle.machine.specs.Numbers.{CODE_WORDS, HEAP_WORDS};
+ghost use Rattle.machine.specs.Numbers;
 ghost use Rattle.desk.specs.LentCall.{lent_call};
-ghost use Rattle.desk.specs.Work.{SMALL_WORDS, Whole, Meant, work_of};
+ghost use Rattle.desk.specs.Work.{Whole, Meant, work_of};
+ghost use Rattle.desk.specs.Work;
 
 use crate::desk_bytes::start_in;
 use crate::run_call::run_in;
@@ -21,19 +22,19 @@ const SMALL_WORDS: usize = 64;
 // Clearing room for the largest heap takes longer than a short run, so there are three sizes.
 
 fn small_room() -> [u32; SMALL_WORDS]
-    ensures { length result ≡ SMALL_WORDS }
+    ensures { length result ≡ Work.SMALL_WORDS }
 {
     [0; SMALL_WORDS]
 }
 
 pub fn code_room() -> [u32; CODE_WORDS]
-    ensures { length result ≡ CODE_WORDS }
+    ensures { length result ≡ Numbers.CODE_WORDS }
 {
     [0; CODE_WORDS]
 }
 
 fn heap_room() -> [u32; HEAP_WORDS]
-    ensures { length result ≡ HEAP_WORDS }
+    ensures { length result ≡ Numbers.HEAP_WORDS }
 {
     [0; HEAP_WORDS]
 }
@@ -47,8 +48,8 @@ fn over_small(
     regs: &mut [u8],
     budget: u32,
 ) -> u64
-    requires table_len_bound { length table.now ≤ SMALL_WORDS * 4 }
-    requires heap_len_bound { length heap.old ≤ SMALL_WORDS * 4 }
+    requires table_len_bound { length table.now ≤ Work.SMALL_WORDS * 4 }
+    requires heap_len_bound { length heap.old ≤ Work.SMALL_WORDS * 4 }
     requires whole { Whole (length table.now) (length heap.old) (length regs.old) }
     requires meant { Meant work numbers.now (length code.old) }
     ensures { lent_call result code.new heap.new regs.new ≡ work_of work numbers.now code.old table.now heap.old regs.old budget }
@@ -70,7 +71,7 @@ fn over_middle(
     regs: &mut [u8],
     budget: u32,
 ) -> u64
-    requires heap_len_bound { length heap.old ≤ CODE_WORDS * 4 }
+    requires heap_len_bound { length heap.old ≤ Numbers.CODE_WORDS * 4 }
     requires whole { Whole (length table.now) (length heap.old) (length regs.old) }
     requires meant { Meant work numbers.now (length code.old) }
     ensures { lent_call result code.new heap.new regs.new ≡ work_of work numbers.now code.old table.now heap.old regs.old budget }

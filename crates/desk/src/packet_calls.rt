@@ -1,7 +1,7 @@
 // vans_read, vans_check, vans_erase and vans_desk: the calls on packets, on byte buffers.
 ghost use Rattle.std.specs.Prelude.{◌≡◌, ◌≤◌, length};
 ghost use Rattle.machine.specs.Numbers.{CODE_WORDS};
-ghost use Rattle.listing.specs.Limits.{BYTES};
+ghost use Rattle.listing.specs.Limits;
 ghost use Rattle.listing.specs.Packet.{numbers_in};
 ghost use Rattle.listing.specs.Parts.{items_in};
 ghost use Rattle.checker.specs.Check.{check_of};
@@ -37,7 +37,7 @@ const DESK: u32 = 3;
 
 // Hands a packet's numbers over in bytes, where they fit.
 fn hand_over(numbers: &[u32], out: &mut [u8]) -> u64
-    requires { length numbers.now ≤ BYTES }
+    requires { length numbers.now ≤ Limits.BYTES }
     ensures { packet_call result out.new ≡ handed_of numbers.now (length numbers.now) out.old }
 {
     let n = numbers.len();
@@ -51,7 +51,7 @@ fn hand_over(numbers: &[u32], out: &mut [u8]) -> u64
 // Reads the packet into a room that has a word for each of its bytes.
 fn read_in(room: &mut [u32], packet: &[u8], numbers: &mut [u8]) -> u64
     requires packet_in_bounds { length packet.now ≤ length room.old }
-    requires packet_len_bound { length packet.now ≤ BYTES }
+    requires packet_len_bound { length packet.now ≤ Limits.BYTES }
     ensures { packet_call result numbers.new ≡ vans_read_of packet.now numbers.old }
 {
     match listing::read(packet, room) {
@@ -120,7 +120,7 @@ fn checked_in(
     budget: u32,
 ) -> u64
     requires packet_in_bounds { length packet.now ≤ length room.old }
-    requires packet_len_bound { length packet.now ≤ BYTES }
+    requires packet_len_bound { length packet.now ≤ Limits.BYTES }
     ensures { lent_call result out.new heap.new regs.new ≡ checked_task task (check_of packet.now) (numbers_in packet.now) out.old heap.old blocks.now regs.old budget }
 {
     match checker::check(packet, room) {
@@ -142,7 +142,7 @@ pub fn task_in(
     budget: u32,
 ) -> u64
     requires packet_in_bounds { length packet.now ≤ length room.old }
-    requires packet_len_bound { length packet.now ≤ BYTES }
+    requires packet_len_bound { length packet.now ≤ Limits.BYTES }
     ensures { lent_call result out.new heap.new regs.new ≡ task_of task packet.now out.old heap.old blocks.now regs.old budget }
 {
     if task == READ {

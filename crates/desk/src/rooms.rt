@@ -3,7 +3,8 @@
 ghost use Rattle.std.specs.Prelude.{◌≡◌, ◌≤◌, length};
 ghost use Rattle.listing.specs.Limits.{BYTES};
 ghost use Rattle.desk.specs.LentCall.{lent_call};
-ghost use Rattle.desk.specs.Tasks.{SMALL_PACKET, SHORT_PACKET, MIDDLE_PACKET, LONG_PACKET, task_of};
+ghost use Rattle.desk.specs.Tasks.{task_of};
+ghost use Rattle.desk.specs.Tasks;
 
 use crate::packet_calls::task_in;
 
@@ -45,7 +46,7 @@ fn in_small(
     regs: &mut [u8],
     budget: u32,
 ) -> u64
-    requires { length packet.now ≤ SMALL_PACKET }
+    requires { length packet.now ≤ Tasks.SMALL_PACKET }
     ensures { lent_call result out.new heap.new regs.new ≡ task_of task packet.now out.old heap.old blocks.now regs.old budget }
 {
     let mut room = small_room();
@@ -61,7 +62,7 @@ fn in_short(
     regs: &mut [u8],
     budget: u32,
 ) -> u64
-    requires { length packet.now ≤ SHORT_PACKET }
+    requires { length packet.now ≤ Tasks.SHORT_PACKET }
     ensures { lent_call result out.new heap.new regs.new ≡ task_of task packet.now out.old heap.old blocks.now regs.old budget }
 {
     let mut room = short_room();
@@ -77,7 +78,7 @@ fn in_middle(
     regs: &mut [u8],
     budget: u32,
 ) -> u64
-    requires { length packet.now ≤ MIDDLE_PACKET }
+    requires { length packet.now ≤ Tasks.MIDDLE_PACKET }
     ensures { lent_call result out.new heap.new regs.new ≡ task_of task packet.now out.old heap.old blocks.now regs.old budget }
 {
     let mut room = middle_room();
@@ -93,7 +94,7 @@ fn in_long(
     regs: &mut [u8],
     budget: u32,
 ) -> u64
-    requires { length packet.now ≤ LONG_PACKET }
+    requires { length packet.now ≤ Tasks.LONG_PACKET }
     ensures { lent_call result out.new heap.new regs.new ≡ task_of task packet.now out.old heap.old blocks.now regs.old budget }
 {
     let mut room = long_room();

@@ -2,7 +2,8 @@
 ghost use Rattle.std.specs.Prelude.{◌≡◌, ◌*◌, ◌≤◌, length};
 ghost use Rattle.machine.specs.Run.{run_of};
 ghost use Rattle.desk.specs.Bytes.{words_of, bytes_of};
-ghost use Rattle.desk.specs.RunCall.{REGS_BYTES, run_call, ragged_of, border_of, in_bytes, run_bytes_of, vans_run_of};
+ghost use Rattle.desk.specs.RunCall.{run_call, ragged_of, border_of, in_bytes, run_bytes_of, vans_run_of};
+ghost use Rattle.desk.specs.RunCall;
 ghost use Rattle.desk.specs.Work.{Whole, Lent};
 
 use crate::answers::answer;
@@ -39,7 +40,7 @@ fn border(code: usize, heap: usize, regs: usize, budget: u32) -> u8
 
 // The sixteen registers of a buffer.
 pub fn registers(regs: &[u8]) -> [u32; 16]
-    requires { length regs.now ≡ REGS_BYTES }
+    requires { length regs.now ≡ RunCall.REGS_BYTES }
     ensures { result ≡ words_of regs.now }
 {
     let mut words = [0u32; 16];
@@ -49,7 +50,7 @@ pub fn registers(regs: &[u8]) -> [u32; 16]
 
 // Copies sixteen registers into a buffer.
 fn put_registers(words: [u32; 16], regs: &mut [u8])
-    requires { length regs.old ≡ REGS_BYTES }
+    requires { length regs.old ≡ RunCall.REGS_BYTES }
     ensures { regs.new ≡ bytes_of words }
 {
     spill(&words, regs);

@@ -5,7 +5,7 @@
 #![tactic(auto)]
 
 ghost use Rattle.std.specs.Prelude.{◌≡◌, ◌+◌, length};
-ghost use Rattle.listing.specs.Limits.{BYTES};
+ghost use Rattle.listing.specs.Limits;
 ghost use Rattle.lines.specs.Line.{Front};
 
 use libc::{STDERR_FILENO, STDIN_FILENO, STDOUT_FILENO};
@@ -23,7 +23,7 @@ pub struct Input {
 }
 
 pub fn packet_room() -> [u8; MOST]
-    ensures { length result ≡ BYTES + 1 }
+    ensures { length result ≡ Limits.BYTES + 1 }
 {
     [0; MOST]
 }

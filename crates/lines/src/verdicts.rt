@@ -1,8 +1,9 @@
 // The line of a verdict, and of a packet.
 ghost use Rattle.std.specs.Prelude.{◌≡◌, ◌≤◌, length};
-ghost use Rattle.listing.specs.Limits.{BYTES};
+ghost use Rattle.listing.specs.Limits;
 ghost use Rattle.checker.specs.Check.{check_of};
-ghost use Rattle.lines.specs.Line.{refusal_of, line_of, written, line_in, Front, LONGEST};
+ghost use Rattle.lines.specs.Line.{refusal_of, line_of, written, line_in, Front};
+ghost use Rattle.lines.specs.Line;
 ghost use Rattle.lines.specs.Put.{put_of};
 
 use crate::texts::{put_labelled, put_text};
@@ -14,7 +15,7 @@ pub const LONGEST: usize = 36;
 
 // Room for the numbers of any packet.
 pub fn numbers_room() -> [u32; BYTES]
-    ensures { length result ≡ BYTES }
+    ensures { length result ≡ Limits.BYTES }
 {
     [0; BYTES]
 }
@@ -32,7 +33,7 @@ fn verdict(packet: &[u8]) -> Checked
 
 fn put_refusal(out: &mut [u8], number: u8, place: usize) -> usize
     ensures out_after { written result out.new ≡ put_of out.old 0 (refusal_of number place) }
-    ensures bounded { result ≤ LONGEST }
+    ensures bounded { result ≤ Line.LONGEST }
 {
     let number_end = put_labelled(out, 0, b"REFUSED ", number as usize);
     let place_end = put_labelled(out, number_end, b" AT ", place);
@@ -41,7 +42,7 @@ fn put_refusal(out: &mut [u8], number: u8, place: usize) -> usize
 
 fn put_line(out: &mut [u8], checked: Checked) -> usize
     ensures out_after { written result out.new ≡ put_of out.old 0 (line_of checked) }
-    ensures bounded { result ≤ LONGEST }
+    ensures bounded { result ≤ Line.LONGEST }
 {
     match checked {
         Checked::Accepted(_) => put_text(out, 0, b"ACCEPTED\n"),

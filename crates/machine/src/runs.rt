@@ -1,6 +1,6 @@
 // A run with a budget, and what the bare machine refuses.
 ghost use Rattle.std.specs.Prelude.{◌≡◌, get_or};
-ghost use Rattle.machine.specs.Numbers.{RUNNING};
+ghost use Rattle.machine.specs.Numbers;
 ghost use Rattle.machine.specs.Step.{machine_at, machine_of};
 ghost use Rattle.machine.specs.Run.{outcome_at, outcome_from, refusal_of, run_of};
 
@@ -36,7 +36,7 @@ pub fn refusal(code: usize, heap: usize, budget: u32) -> u8
 // array that each step is lent: a state by value would be copied at every step.
 fn drive(code: &[u32], heap: &mut [u32], start: [u32; 16], budget: u32) -> Ran
     requires { get_or start 0 0 ≡ 0 }
-    ensures { outcome_at (machine_of result.state heap.new) result.count ≡ outcome_from code.now budget (machine_at start 0 RUNNING heap.old) 0 }
+    ensures { outcome_at (machine_of result.state heap.new) result.count ≡ outcome_from code.now budget (machine_at start 0 Numbers.RUNNING heap.old) 0 }
 {
     let mut regs = start;
     let mut pc = 0;
@@ -71,7 +71,7 @@ fn drive(code: &[u32], heap: &mut [u32], start: [u32; 16], budget: u32) -> Ran
 
 // Drives the machine with what the start holds in r0 put aside.
 fn drive_aside(code: &[u32], heap: &mut [u32], start: [u32; 16], budget: u32) -> Ran
-    ensures { outcome_at (machine_of result.state heap.new) result.count ≡ outcome_from code.now budget (machine_at start 0 RUNNING heap.old) 0 }
+    ensures { outcome_at (machine_of result.state heap.new) result.count ≡ outcome_from code.now budget (machine_at start 0 Numbers.RUNNING heap.old) 0 }
 {
     let aside = start[0];
     let mut zeroed = start;

@@ -4,7 +4,8 @@
 #![tactic(auto)]
 
 ghost use Rattle.std.specs.Prelude.{◌≡◌, ◌+◌, ◌*◌, ◌%◌, ◌≤◌, ◌<◌, ◌^◌};
-ghost use Rattle.number.specs.Number.{read_of, last_of, malformed_of, CONTINUES};
+ghost use Rattle.number.specs.Number.{read_of, last_of, malformed_of};
+ghost use Rattle.number.specs.Number;
 
 // The most bytes of a number, and the least byte that is not a number's last.
 const GROUPS: u32 = 5;
@@ -33,7 +34,7 @@ fn malformed(first: usize, at: usize) -> Found
 fn last(value: u64, scale: u64, b: u8, first: usize, at: usize) -> Found
     requires value_lt_scale { value < scale }
     requires scale_bound { scale ≤ 2 ^ 28 }
-    requires b_bound { b < CONTINUES }
+    requires b_bound { b < Number.CONTINUES }
     requires at_bound { at + 1 < 2 ^ 64 }
     ensures { result ≡ last_of value scale b first at }
 {

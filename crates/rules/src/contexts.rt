@@ -1,6 +1,6 @@
 // The current context, by value: what it says of the registers, the stack of labels, the pc level.
 ghost use Rattle.std.specs.Prelude.{◌≡◌, ◌<◌, ◌≤◌, ◌+◌, length, set, drop, [], ◌∷◌};
-ghost use Rattle.listing.specs.Limits.{STACK};
+ghost use Rattle.listing.specs.Limits;
 ghost use Rattle.listing.specs.Parts.{register_at, registers_place, label_at};
 ghost use Rattle.rules.specs.Context.{context_of, slot_at, slot_of, exactly, meets, met_of, same_of, no_registers, with_listed, entered};
 ghost use Rattle.rules.specs.Held.{NEAR, stack_in, context_in};
@@ -76,7 +76,7 @@ pub fn is_exactly(s: Slot, kind: u32, level: u32) -> bool
 // Where a label's count of registers stands.
 fn registers_place(numbers: &[u32], place: u32) -> usize
     ensures value { result ≡ registers_place numbers.now place }
-    ensures near { result ≤ place + 2 + STACK }
+    ensures near { result ≤ place + 2 + Limits.STACK }
 {
     let at = place as usize;
     at + 2 + at_most(STACK, number_at(numbers, at + 1)) as usize

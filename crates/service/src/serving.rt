@@ -1,6 +1,6 @@
 // The desk call on lent words: packet, items, 35, 30, 34, rows, fields, registers, run.
 ghost use Rattle.std.specs.Prelude.{◌≡◌, ◌≤◌, true, length, replicate};
-ghost use Rattle.listing.specs.Limits.{BYTES};
+ghost use Rattle.listing.specs.Limits;
 ghost use Rattle.listing.specs.Parts.{items_in};
 ghost use Rattle.eraser.specs.Erase.{needed_of};
 ghost use Rattle.service.specs.Desk.{later_fault, serve_by, desk_call, service_of, code_for, ran_of, ran_call, desk_of};
@@ -96,7 +96,7 @@ fn serve_numbers(
 
 // Room for the numbers of the longest packet.
 pub fn longest_room() -> [u32; BYTES]
-    ensures { result ≡ replicate BYTES 0 }
+    ensures { result ≡ replicate Limits.BYTES 0 }
 {
     [0; BYTES]
 }

@@ -1,6 +1,7 @@
 // The kinds of the blocks by address, so that a pointer is looked up by one read.
 ghost use Rattle.std.specs.Prelude.{◌≡◌, replicate};
-ghost use Rattle.start.specs.KindLaws.{ADDRESSES, Rising, Kinds};
+ghost use Rattle.start.specs.KindLaws.{Rising, Kinds};
+ghost use Rattle.start.specs.KindLaws;
 
 use listing::number_at;
 
@@ -9,7 +10,7 @@ use listing::number_at;
 const ADDRESSES: usize = 16384;
 
 fn no_kinds() -> [u8; ADDRESSES]
-    ensures { result ≡ replicate ADDRESSES 0 }
+    ensures { result ≡ replicate KindLaws.ADDRESSES 0 }
 {
     [0; ADDRESSES]
 }

@@ -1,6 +1,6 @@
 // Where the fields of a shape, and the registers that the first label lists, stand among the numbers.
 ghost use Rattle.std.specs.Prelude.{◌≡◌, ◌+◌, ◌*◌, ◌≤◌, ◌<◌};
-ghost use Rattle.listing.specs.Limits.{SHAPES, LABELS};
+ghost use Rattle.listing.specs.Limits;
 ghost use Rattle.listing.specs.Parts.{behind, behind_shape, behind_label, shapes_in, labels_in};
 ghost use Rattle.listing.specs.PlaceLaws.{SHAPE_NUMBERS, LABEL_NUMBERS, TOP_LABELS_PLACE, TOP_ITEMS_PLACE};
 ghost use Rattle.start.specs.Start.{shape_of, listed_by, listed_at, first_listed};
@@ -18,7 +18,7 @@ pub struct Span {
 
 // Where a shape begins.
 fn shape_place(numbers: &[u32], s: u32) -> u32
-    requires { s < SHAPES }
+    requires { s < Limits.SHAPES }
     ensures value { result ≡ behind (behind_shape numbers.now) 2 s }
     ensures bounded { result ≤ 2 + SHAPE_NUMBERS * s }
 {
@@ -33,7 +33,7 @@ fn shape_place(numbers: &[u32], s: u32) -> u32
 
 // Where a label begins; the count of labels stands at `place`.
 fn label_place(numbers: &[u32], place: u32, l: u32) -> u32
-    requires l_bound { l < LABELS }
+    requires l_bound { l < Limits.LABELS }
     requires place_bound { place ≤ TOP_LABELS_PLACE }
     ensures value { result ≡ behind (behind_label numbers.now) (place + 1) l }
     ensures bounded { result ≤ place + 1 + LABEL_NUMBERS * l }
