@@ -1,9 +1,9 @@
 -- Signed readings, exact at both ends: a word below 2 ^ 31 is itself, one from there on is below 0, and an extended immediate reads as its 16 bits do.
-use Rattle.std.specs.Prelude.{ℕ, ◌+◌, ◌-◌, ◌%◌, ◌<◌, ◌≤◌, ◌^◌, ◌≡◌, refl, ltb, ℤ, pos, negsuc}
+use Rattle.std.specs.Prelude.{ℕ, ◌+◌, ◌-◌, ◌%◌, ◌<◌, ◌≤◌, ◌^◌, ◌≡◌, refl, ltb, pos, negsuc}
 use Rattle.std.proofs.Math.Decide.{dec_lt}
 use Rattle.std.proofs.Common.{arith, sym, ap, ◌∙◌}
 use Rattle.choice.specs.Pick.{pick, is_less, not_less}
-use Rattle.machine.specs.Arithmetic.{add_of, signed_of, slt_of, extend_of, compute_of}
+use Rattle.machine.specs.Arithmetic.{signed_of, extend_of}
 
 pub signed_low : (w : ℕ) → w < 2 ^ 31 → signed_of w ≡ pos w
 unfolding signed_of

@@ -1,12 +1,11 @@
 -- r0 is nobody's: a step reads nothing that the state holds there and writes nothing there. So a machine may go with 0 in r0 and have what it held put back at the end.
 use Prim.Native.Nat.{ℕ, zero, suc, ◌+◌}
 use Rattle.std.proofs.Common.{arith, ◌∙◌, get_or-set_other, set-set}
-use Rattle.std.specs.Prelude.{◌≡◌, List, length, get_or, set, ltb, eqb}
+use Rattle.std.specs.Prelude.{◌≡◌, List, get_or, set}
 use Rattle.std.proofs.Math.Path.{refl, sym, ap}
 use Rattle.std.proofs.lemmas.List.{set_comm, set-get_or}
-use Rattle.choice.specs.Pick.{pick, both, through}
-use Rattle.machine.specs.Numbers.{RUNNING, HALTED}
-use Rattle.machine.specs.Arithmetic.{compute_of, extend_of}
+use Rattle.choice.specs.Pick.{both, through}
+use Rattle.machine.specs.Numbers.{RUNNING}
 use Rattle.machine.specs.Word.{Kind, halt, jmp, bnz, load, store, compute, compute_immediate, bad, kind_of}
 use Rattle.machine.specs.TableLaws.{reads_zero, reads, writes_zero, writes}
 use Rattle.machine.specs.declared.table.State.{State}

@@ -12,7 +12,7 @@ use Rattle.std.proofs.Math.Arith.{lt_of_le-ne}
 use Rattle.choice.specs.Pick.{is_equal, not_equal, is_less, not_less}
 use Rattle.machine.specs.Numbers.{HALTED, NO_WORD, BAD_WORD, BAD_ADDRESS, RUNNING}
 use Rattle.machine.specs.Arithmetic.{compute_of, extend_of}
-use Rattle.machine.specs.Word.{Kind, halt, jmp, bnz, load, store, compute, compute_immediate, bad, whole, halt_in, jmp_in, bnz_in, load_in, store_in, compute_in, compute_immediate_in, opcode_of, kind_at, kind_of}
+use Rattle.machine.specs.Word.{Kind, halt, jmp, bnz, load, store, compute, compute_immediate, bad, whole, kind_at, kind_of}
 use Rattle.machine.specs.WordLaws.{op_halt, op_jmp, op_bnz, op_load, op_store, op_compute_at, op_compute_immediate_at, op_compute_immediate_of, op_none}
 use Rattle.machine.specs.Step.{Machine, machine_at, read_of, write_of, does_of, act_of}
 

@@ -1,10 +1,4 @@
 -- `drive` runs the machine: the whole run is what is left of it from each turn on.
-use Prim.Native.Nat.{◌-◌}
-use mathlib.Core.Path.{◌≡◌}
-use lib.ListN.{length, get_or}
-use Rattle.machine.specs.Numbers.{RUNNING}
-use Rattle.machine.specs.Step.{machine_at}
-use Rattle.machine.specs.Run.{outcome_from}
 use Rattle.machine.specs.RunLaws.{turns}
 use Rattle.machine.specs.R0Laws.{still_zero}
 use borrow.Author.Rules.{rules}

@@ -5,9 +5,6 @@ use lib.ListN.{length, get_or}
 use Rattle.machine.specs.Numbers.{RUNNING}
 use Rattle.machine.specs.Step.{machine_at}
 use Rattle.machine.specs.Run.{outcome_from}
-use Rattle.machine.specs.RunLaws.{turns}
-use Rattle.machine.specs.R0Laws.{still_zero}
-use borrow.Author.Rules.{rules}
 use Rattle.machine.proofs.runs.drive.Given as goal
 
 abbrev pub invariant-loop-count : goal.invariant-loop-count

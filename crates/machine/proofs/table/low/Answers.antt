@@ -1,6 +1,5 @@
 -- `low` takes the low half of a word: a mask of ones is a remainder.
-use lib.Bits.{and_mask, mask_lt}
-use native.Mathlib.Omega.{arith}
+use lib.Bits.{and_mask}
 use Rattle.machine.proofs.table.low.Goals as goal
 
 pub returns : goal.returns

@@ -1,8 +1,6 @@
 -- `part` takes four bits of a word: a mask of ones is a remainder.
-use lib.Bits.{and_mask, mask_lt}
-use native.Mathlib.Omega.{arith}
+use lib.Bits.{and_mask}
 use Prim.Native.Nat.{◌/◌, ◌^◌}
-use borrow.Author.Rules.{rules}
 use Rattle.machine.proofs.table.part.Goals as goal
 
 pub returns : goal.returns
