@@ -8,9 +8,9 @@ ghost use Rattle.std.specs.Prelude.{◌≡◌, ◌+◌, length};
 ghost use Rattle.listing.specs.Limits;
 ghost use Rattle.lines.specs.Line.{Front};
 
-use libc::{STDERR_FILENO, STDIN_FILENO, STDOUT_FILENO};
 use lines::LONGEST;
 use listing::limits::BYTES;
+use std::io::{Read, Write};
 
 // One byte more than a packet may have: enough to tell that one is too long.
 const MOST: usize = BYTES + 1;
@@ -29,26 +29,26 @@ pub fn packet_room() -> [u8; MOST]
 }
 
 // Reads until the input ends, the buffer is full or a read fails.
-fn read_packet(buf: &mut [u8]) -> Input
+fn read_packet(stdin: &mut impl Read, buf: &mut [u8]) -> Input
     ensures { Front result.count buf.new }
 {
     let mut count = 0;
     while count < buf.len() {
-        let got = libc::read(STDIN_FILENO, &mut buf[count..]);
-        if got < 0 {
-            return Input {
-                count,
-                failed: true,
-            };
+        match stdin.read(&mut buf[count..]) {
+            Ok(0) => {
+                return Input {
+                    count,
+                    failed: false,
+                };
+            }
+            Ok(more) => count += more,
+            Err(_) => {
+                return Input {
+                    count,
+                    failed: true,
+                };
+            }
         }
-        let more = io::count(got, &buf[count..]);
-        if more == 0 {
-            return Input {
-                count,
-                failed: false,
-            };
-        }
-        count += more;
     }
     Input {
         count,
@@ -56,34 +56,45 @@ fn read_packet(buf: &mut [u8]) -> Input
     }
 }
 
-// Says on standard error what a program could not do.
-fn complain(program: &[u8], text: &[u8]) {
-    io::write_all(STDERR_FILENO, program);
-    io::write_all(STDERR_FILENO, text);
+// Says on standard error what a program could not do. Where that cannot be written either, nothing is left to say.
+fn complain(stderr: &mut impl Write, program: &[u8], text: &[u8]) {
+    let _ = stderr.write_all(program);
+    let _ = stderr.write_all(text);
 }
 
 // Prints a packet's line, and answers whether it was written.
-fn print_line(packet: &[u8], program: &[u8]) -> bool {
+fn print_line(
+    stdout: &mut impl Write,
+    stderr: &mut impl Write,
+    packet: &[u8],
+    program: &[u8],
+) -> bool {
     let mut out = [0u8; LONGEST];
     let n = lines::line(packet, &mut out);
-    if io::write_all(STDOUT_FILENO, &out[..n]) {
+    if stdout.write_all(&out[..n]).is_ok() {
         return true;
     }
-    complain(program, b": standard output cannot be written\n");
+    complain(stderr, program, b": standard output cannot be written\n");
     false
 }
 
 // Reads a packet and prints its line.
-pub fn answer(buf: &mut [u8], program: &[u8]) -> Input
+pub fn answer(
+    stdin: &mut impl Read,
+    stdout: &mut impl Write,
+    stderr: &mut impl Write,
+    buf: &mut [u8],
+    program: &[u8],
+) -> Input
     ensures { Front result.count buf.new }
 {
-    let input = read_packet(buf);
+    let input = read_packet(stdin, buf);
     let count = input.count;
     if input.failed {
-        complain(program, b": standard input cannot be read\n");
+        complain(stderr, program, b": standard input cannot be read\n");
         return input;
     }
-    let printed = print_line(&buf[..count], program);
+    let printed = print_line(stdout, stderr, &buf[..count], program);
     Input {
         count,
         failed: !printed,

@@ -5,7 +5,13 @@
 
 use intake::{answer, packet_room};
 
-fn main() {
+fn main(rt: HostRuntime) {
     let mut packet = packet_room();
-    answer(&mut packet, b"sifcheck");
+    answer(
+        &mut rt.stdin(),
+        &mut rt.stdout(),
+        &mut rt.stderr(),
+        &mut packet,
+        b"sifcheck",
+    );
 }

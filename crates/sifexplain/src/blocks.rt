@@ -25,8 +25,9 @@ const PLACING: u32 = 7;
 
 const FOUND: u32 = 8;
 
-fn tell(text: u32, a: u32, b: u32) {
+fn tell(out: &impl Print, text: u32, a: u32, b: u32) {
     say_piece(
+        out,
         b"Item #, at byte # of the packet: |\
         At the end of the list, behind item #, at byte # of the packet: |\
         .\nFound: item #, at byte # of the packet: |\
@@ -45,43 +46,43 @@ fn tell(text: u32, a: u32, b: u32) {
 }
 
 // An item by its number, its place and its words.
-pub(crate) fn say_placed_item(text: u32, packet: &[u8], numbers: &[u32], i: u32) {
-    tell(text, i, item_byte(packet, numbers, i));
-    say_item(numbers, i);
+pub(crate) fn say_placed_item(out: &impl Print, text: u32, packet: &[u8], numbers: &[u32], i: u32) {
+    tell(out, text, i, item_byte(packet, numbers, i));
+    say_item(out, numbers, i);
 }
 
 // An item as it is found.
-fn say_found_item(numbers: &[u32], i: u32) {
-    tell(FOUND, 0, 0);
-    say_item(numbers, i);
-    say_end();
+fn say_found_item(out: &impl Print, numbers: &[u32], i: u32) {
+    tell(out, FOUND, 0, 0);
+    say_item(out, numbers, i);
+    say_end(out);
 }
 
-pub(crate) fn say_label_due(numbers: &[u32], i: u32) {
-    say_rule(NO_LABEL);
+pub(crate) fn say_label_due(out: &impl Print, numbers: &[u32], i: u32) {
+    say_rule(out, NO_LABEL);
     if i == 0 {
-        tell(FIRST, 0, 0);
+        tell(out, FIRST, 0, 0);
     } else {
-        tell(BEHIND, 0, 0);
-        say_item(numbers, i - 1);
+        tell(out, BEHIND, 0, 0);
+        say_item(out, numbers, i - 1);
     }
-    say_found_item(numbers, i);
+    say_found_item(out, numbers, i);
 }
 
-pub(crate) fn say_placed_twice(packet: &[u8], numbers: &[u32], l: u32, i: u32) {
-    say_rule(PLACED_TWICE);
-    tell(NOT_PLACED, l, 0);
-    say_placed_item(BEFORE, packet, numbers, placed_by(numbers, l, i));
-    say_end();
+pub(crate) fn say_placed_twice(out: &impl Print, packet: &[u8], numbers: &[u32], l: u32, i: u32) {
+    say_rule(out, PLACED_TWICE);
+    tell(out, NOT_PLACED, l, 0);
+    say_placed_item(out, BEFORE, packet, numbers, placed_by(numbers, l, i));
+    say_end(out);
 }
 
-pub(crate) fn say_open_end(numbers: &[u32], last: u32) {
-    say_rule(OPEN_END);
-    tell(ENDING, 0, 0);
-    say_found_item(numbers, last);
+pub(crate) fn say_open_end(out: &impl Print, numbers: &[u32], last: u32) {
+    say_rule(out, OPEN_END);
+    tell(out, ENDING, 0, 0);
+    say_found_item(out, numbers, last);
 }
 
-pub(crate) fn say_never_placed(numbers: &[u32]) {
-    say_rule(NEVER_PLACED);
-    tell(PLACING, first_unplaced(numbers), 0);
+pub(crate) fn say_never_placed(out: &impl Print, numbers: &[u32]) {
+    say_rule(out, NEVER_PLACED);
+    tell(out, PLACING, first_unplaced(numbers), 0);
 }

@@ -11,7 +11,7 @@ use listing::{Wanted, number_at};
 
 // A number that is due: its text, below; the shape, label or item that it belongs to; the field or register within
 // that; its range, and what is noted of the range.
-#[derive(Drop)]
+#[derive(Clone, Copy)]
 pub struct Part {
     pub text: u32,
     pub owner: u32,
@@ -156,8 +156,9 @@ pub(crate) fn fault_part(packet: &[u8], numbers: &[u32]) -> Part {
 }
 
 // Where it begins, and what it is.
-pub(crate) fn say_part(p: Part, numbers: &[u32], at: u32) {
+pub(crate) fn say_part(out: &impl Print, p: Part, numbers: &[u32], at: u32) {
     say_piece(
+        out,
         b"At byte # of the packet: the edition|\
         At byte # of the packet: the count of shapes|\
         At byte # of the packet, in shape #: the count of its fields|\
@@ -186,7 +187,7 @@ pub(crate) fn say_part(p: Part, numbers: &[u32], at: u32) {
         0,
     );
     if LABEL <= p.text {
-        say_name(item_number(p.owner, numbers));
+        say_name(out, item_number(p.owner, numbers));
     }
 }
 
@@ -201,8 +202,9 @@ fn note_of(p: Part) -> u32 {
 }
 
 // Its range.
-pub(crate) fn say_range(p: Part) {
+pub(crate) fn say_range(out: &impl Print, p: Part) {
     say_piece(
+        out,
         b"Wanted: #|Wanted: # to #",
         (p.low < p.high) as u32,
         p.low,
@@ -211,6 +213,7 @@ pub(crate) fn say_range(p: Part) {
         0,
     );
     say_piece(
+        out,
         b"|\
         , a label of this packet|\
         , from halt to label|\

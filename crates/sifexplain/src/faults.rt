@@ -62,8 +62,9 @@ fn value(packet: &[u8], at: usize) -> u32 {
     }
 }
 
-fn say_fault(packet: &[u8], number: u8, at: usize) {
+fn say_fault(out: &impl Print, packet: &[u8], number: u8, at: usize) {
     say_piece(
+        out,
         b".\nFound: the packet's end within this number, at byte #.\n|\
         .\nFound: the packet's end, at byte #.\n|\
         .\nFound: a last byte of 0, which adds nothing.\n|\
@@ -78,14 +79,14 @@ fn say_fault(packet: &[u8], number: u8, at: usize) {
     );
 }
 
-fn explain_number(packet: &[u8], numbers: &[u32], number: u8) {
+fn explain_number(out: &impl Print, packet: &[u8], numbers: &[u32], number: u8) {
     let s = fault_stand(packet);
     let at = s.at;
     let p = fault_part(packet, numbers);
-    say_part(p, numbers, counted(at));
-    say_rule(number);
-    say_range(p);
-    say_fault(packet, number, at);
+    say_part(out, p, numbers, counted(at));
+    say_rule(out, number);
+    say_range(out, p);
+    say_fault(out, packet, number, at);
 }
 
 // The texts of a packet's size: of one that goes on behind its last item, and of one that is not even read.
@@ -97,8 +98,9 @@ const WHOLE: u32 = 2;
 
 const MOST: u32 = 3;
 
-fn tell(text: u32, a: u32, b: u32) {
+fn tell(out: &impl Print, text: u32, a: u32, b: u32) {
     say_piece(
+        out,
         b"At byte # of the packet: its end|\
         Wanted: # bytes.\nFound: # bytes.\n|\
         The whole packet|\
@@ -111,22 +113,28 @@ fn tell(text: u32, a: u32, b: u32) {
     );
 }
 
-fn explain_left_over(packet: &[u8], place: u32) {
-    tell(LEFT, place, 0);
-    say_rule(LEFT_OVER);
-    tell(SIZES, place, counted(packet.len()));
+fn explain_left_over(out: &impl Print, packet: &[u8], place: u32) {
+    tell(out, LEFT, place, 0);
+    say_rule(out, LEFT_OVER);
+    tell(out, SIZES, place, counted(packet.len()));
 }
 
-fn explain_too_long() {
-    tell(WHOLE, 0, 0);
-    say_rule(TOO_LONG);
-    tell(MOST, BYTES as u32, 0);
+fn explain_too_long(out: &impl Print) {
+    tell(out, WHOLE, 0, 0);
+    say_rule(out, TOO_LONG);
+    tell(out, MOST, BYTES as u32, 0);
 }
 
-pub(crate) fn explain_fault(packet: &[u8], numbers: &[u32], number: u8, place: u32) {
+pub(crate) fn explain_fault(
+    out: &impl Print,
+    packet: &[u8],
+    numbers: &[u32],
+    number: u8,
+    place: u32,
+) {
     match number {
-        TOO_LONG => explain_too_long(),
-        LEFT_OVER => explain_left_over(packet, place),
-        _ => explain_number(packet, numbers, number),
+        TOO_LONG => explain_too_long(out),
+        LEFT_OVER => explain_left_over(out, packet, place),
+        _ => explain_number(out, packet, numbers, number),
     }
 }

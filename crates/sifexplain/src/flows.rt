@@ -9,8 +9,9 @@ use listing::number_at;
 use rules::{Slot, slot_at};
 
 // A register or a label goes by x, a field by its offset x and its shape y.
-fn say_target(shows: u32, x: u32, y: u32) {
+fn say_target(out: &impl Print, shows: u32, x: u32, y: u32) {
     say_piece(
+        out,
         b"r#|field # of shape #|field # of shape #|L#|L#",
         shows,
         x,
@@ -21,8 +22,9 @@ fn say_target(shows: u32, x: u32, y: u32) {
 }
 
 // What a level lets be seen at a target, and how more would show there.
-fn say_leak(from: u32, to: u32, shows: u32) {
+fn say_leak(out: &impl Print, from: u32, to: u32, shows: u32) {
     say_piece(
+        out,
         b" may be read at level # and up; this item writes there what is known only at level #.\n|\
         \x20may be read at level # and up; this item writes there what is known only at level #.\n|\
         \x20may be read at level # and up; this item reaches it by what is known only at level #.\n|\
@@ -50,8 +52,9 @@ const AND: u32 = 6;
 
 const FIELD: u32 = 7;
 
-fn tell(text: u32, a: u32, b: u32, c: u32, d: u32) {
+fn tell(out: &impl Print, text: u32, a: u32, b: u32, c: u32, d: u32) {
     say_piece(
+        out,
         b" at or below level # of |\
         \x20at or below pc level # of |\
         .\nFound: level # lacks|\
@@ -69,14 +72,14 @@ fn tell(text: u32, a: u32, b: u32, c: u32, d: u32) {
 }
 
 // The end of a finding: of a level that may show only at a target's.
-fn say_flow(from: u32, to: u32, shows: u32, x: u32, y: u32) {
-    tell((BLOCK <= shows) as u32, to, 0, 0, 0);
-    say_target(shows, x, y);
-    tell(LACKS, to, 0, 0, 0);
-    say_lacking(from, to);
-    tell(THAT_IS, 0, 0, 0, 0);
-    say_target(shows, x, y);
-    say_leak(from, to, shows);
+fn say_flow(out: &impl Print, from: u32, to: u32, shows: u32, x: u32, y: u32) {
+    tell(out, (BLOCK <= shows) as u32, to, 0, 0, 0);
+    say_target(out, shows, x, y);
+    tell(out, LACKS, to, 0, 0, 0);
+    say_lacking(out, from, to);
+    tell(out, THAT_IS, 0, 0, 0, 0);
+    say_target(out, shows, x, y);
+    say_leak(out, from, to, shows);
 }
 
 fn level_in(registers: [Slot; 16], r: u32) -> u32 {
@@ -92,50 +95,70 @@ fn level_from(pc: u32, registers: [Slot; 16], u: Uses) -> u32 {
     )
 }
 
-fn say_sources(pc: u32, registers: [Slot; 16], u: Uses, from: u32) {
+fn say_sources(out: &impl Print, pc: u32, registers: [Slot; 16], u: Uses, from: u32) {
     let first = level_in(registers, u.through);
     if u.sources == 0 {
-        tell(PC, pc, 0, 0, 0);
+        tell(out, PC, pc, 0, 0, 0);
         return;
     }
-    tell(JOINED, from, pc, u.through, first);
+    tell(out, JOINED, from, pc, u.through, first);
     if u.sources == 2 {
-        tell(AND, u.rt, level_in(registers, u.rt), 0, 0);
+        tell(out, AND, u.rt, level_in(registers, u.rt), 0, 0);
     }
 }
 
 // A load or store shows by which pointer a field is reached, and a load then the field in the register.
-fn say_field_flow(pc: u32, registers: [Slot; 16], u: Uses, from: u32, numbers: &[u32]) {
+fn say_field_flow(
+    out: &impl Print,
+    pc: u32,
+    registers: [Slot; 16],
+    u: Uses,
+    from: u32,
+    numbers: &[u32],
+) {
     let s = slot_at(registers, u.through);
     let shape = shape_of(s.kind);
     let level = field_level(numbers, shape_place(numbers, shape), u.field);
     if at_or_below(from, level) {
-        tell(FIELD, level, u.field, shape, 0);
-        say_flow(level, level_in(registers, u.rd), REGISTER, u.rd, 0);
+        tell(out, FIELD, level, u.field, shape, 0);
+        say_flow(out, level, level_in(registers, u.rd), REGISTER, u.rd, 0);
     } else {
-        say_sources(pc, registers, u, from);
-        say_flow(from, level, u.shows, u.field, shape);
+        say_sources(out, pc, registers, u, from);
+        say_flow(out, from, level, u.shows, u.field, shape);
     }
 }
 
-fn say_register_flow(pc: u32, registers: [Slot; 16], u: Uses, from: u32) {
-    say_sources(pc, registers, u, from);
-    say_flow(from, level_in(registers, u.rd), REGISTER, u.rd, 0);
+fn say_register_flow(out: &impl Print, pc: u32, registers: [Slot; 16], u: Uses, from: u32) {
+    say_sources(out, pc, registers, u, from);
+    say_flow(out, from, level_in(registers, u.rd), REGISTER, u.rd, 0);
 }
 
-fn say_label_flow(pc: u32, registers: [Slot; 16], u: Uses, from: u32, numbers: &[u32]) {
+fn say_label_flow(
+    out: &impl Print,
+    pc: u32,
+    registers: [Slot; 16],
+    u: Uses,
+    from: u32,
+    numbers: &[u32],
+) {
     let to = number_at(numbers, label_place(numbers, u.label) as usize);
-    say_sources(pc, registers, u, from);
-    say_flow(from, to, u.shows, u.label, 0);
+    say_sources(out, pc, registers, u, from);
+    say_flow(out, from, to, u.shows, u.label, 0);
 }
 
-pub(crate) fn say_level_rule(pc: u32, registers: [Slot; 16], u: Uses, numbers: &[u32]) {
+pub(crate) fn say_level_rule(
+    out: &impl Print,
+    pc: u32,
+    registers: [Slot; 16],
+    u: Uses,
+    numbers: &[u32],
+) {
     let from = level_from(pc, registers, u);
     let shows = u.shows;
     match shows {
-        REGISTER => say_register_flow(pc, registers, u, from),
-        WRITTEN => say_field_flow(pc, registers, u, from, numbers),
-        REACHED => say_field_flow(pc, registers, u, from, numbers),
-        _ => say_label_flow(pc, registers, u, from, numbers),
+        REGISTER => say_register_flow(out, pc, registers, u, from),
+        WRITTEN => say_field_flow(out, pc, registers, u, from, numbers),
+        REACHED => say_field_flow(out, pc, registers, u, from, numbers),
+        _ => say_label_flow(out, pc, registers, u, from, numbers),
     }
 }

@@ -30,29 +30,41 @@ use lines::numbers_room;
 use listing::limits::TOO_LONG;
 
 // The reader's refusals have numbers up to 6, and bytes as places; the checker's have items.
-fn explain_refusal(packet: &[u8], numbers: &[u32], number: u8, place: u32) {
+fn explain_refusal(out: &impl Print, packet: &[u8], numbers: &[u32], number: u8, place: u32) {
     if number <= TOO_LONG {
-        explain_fault(packet, numbers, number, place);
+        explain_fault(out, packet, numbers, number, place);
     } else {
-        explain_item(packet, numbers, number, place);
+        explain_item(out, packet, numbers, number, place);
     }
 }
 
-fn explain(packet: &[u8]) {
+fn explain(out: &impl Print, packet: &[u8]) {
     let mut room = numbers_room();
     match checker::check(packet, &mut room) {
         Checked::Accepted(_) => (),
-        Checked::Refused(number, place) => explain_refusal(packet, &room, number, counted(place)),
+        Checked::Refused(number, place) => explain_refusal(
+            out,
+            packet,
+            &room,
+            number,
+            counted(place),
+        ),
         Checked::NoRoom => (),
     }
 }
 
-fn main() {
+fn main(rt: HostRuntime) {
     let mut packet = packet_room();
-    let input = answer(&mut packet, b"sifexplain");
+    let input = answer(
+        &mut rt.stdin(),
+        &mut rt.stdout(),
+        &mut rt.stderr(),
+        &mut packet,
+        b"sifexplain",
+    );
     if input.failed {
         return;
     }
     let n = input.count;
-    explain(&packet[..n]);
+    explain(&rt, &packet[..n]);
 }

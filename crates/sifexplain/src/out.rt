@@ -2,19 +2,17 @@
 // and nothing more is said of it here.
 ghost use Rattle.std.specs.Prelude.{◌≤◌, length};
 
-use libc::STDOUT_FILENO;
-
 // What ends a piece of text, and what stands for a number in it.
 const BAR: u8 = b'|';
 
 const NUMBER: u8 = b'#';
 
-pub(crate) fn say(text: &[u8]) {
-    io::write_all(STDOUT_FILENO, text);
+pub(crate) fn say(out: &impl Print, text: &[u8]) {
+    let _ = out.write_all(text);
 }
 
-fn say_number(n: u32) {
-    io::print_decimal(STDOUT_FILENO, n as u64);
+fn say_number(out: &impl Print, n: u32) {
+    let _ = out.print(n);
 }
 
 // How many bytes stand before a text's first bar or number sign.
@@ -53,12 +51,12 @@ fn piece_at(texts: &[u8], k: u32) -> usize
 }
 
 // Says a text up to its first bar, with numbers in the places of its number signs.
-fn say_filled(text: &[u8], numbers: [u32; 4]) {
+fn say_filled(out: &impl Print, text: &[u8], numbers: [u32; 4]) {
     let mut rest = text;
     let mut i = 0;
     while 0 < rest.len() {
         let n = plain(rest);
-        say(&rest[0..n]);
+        say(out, &rest[0..n]);
         if n == rest.len() {
             return;
         }
@@ -66,7 +64,7 @@ fn say_filled(text: &[u8], numbers: [u32; 4]) {
             return;
         }
         if i < 4 {
-            say_number(numbers[i]);
+            say_number(out, numbers[i]);
             i += 1;
             rest = &rest[n + 1..];
         } else {
@@ -77,12 +75,12 @@ fn say_filled(text: &[u8], numbers: [u32; 4]) {
 
 // Of several pieces of text with bars between them, says the one that has k before it, with a, b, c and d in
 // the places of its number signs.
-pub(crate) fn say_piece(texts: &[u8], k: u32, a: u32, b: u32, c: u32, d: u32) {
+pub(crate) fn say_piece(out: &impl Print, texts: &[u8], k: u32, a: u32, b: u32, c: u32, d: u32) {
     let at = piece_at(texts, k);
-    say_filled(&texts[at..], [a, b, c, d]);
+    say_filled(out, &texts[at..], [a, b, c, d]);
 }
 
 // The end of a sentence.
-pub(crate) fn say_end() {
-    say(b".\n");
+pub(crate) fn say_end(out: &impl Print) {
+    say(out, b".\n");
 }

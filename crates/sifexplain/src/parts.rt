@@ -26,8 +26,9 @@ const HERE: u32 = 10;
 
 const STOP: u32 = 11;
 
-fn tell(text: u32, a: u32, b: u32, c: u32) {
+fn tell(out: &impl Print, text: u32, a: u32, b: u32, c: u32) {
     say_piece(
+        out,
         b"stack empty|\
         stack|\
         r# not listed|\
@@ -49,12 +50,12 @@ fn tell(text: u32, a: u32, b: u32, c: u32) {
 }
 
 // The compartments of `from` that `to` has not, by their weights in a level's number.
-pub(crate) fn say_lacking(from: u32, to: u32) {
+pub(crate) fn say_lacking(out: &impl Print, from: u32, to: u32) {
     let mut weight = 1;
     while weight < 256 {
         if at_or_below(weight, from) {
             if !at_or_below(weight, to) {
-                tell(COMPARTMENT, weight, 0, 0);
+                tell(out, COMPARTMENT, weight, 0, 0);
             }
         }
         weight *= 2;
@@ -62,59 +63,59 @@ pub(crate) fn say_lacking(from: u32, to: u32) {
 }
 
 // A register, and what is said of it.
-pub(crate) fn say_typed(before: u32, r: u32, s: Slot) {
+pub(crate) fn say_typed(out: &impl Print, before: u32, r: u32, s: Slot) {
     let level = s.level as u32;
-    tell(before, 0, 0, 0);
+    tell(out, before, 0, 0, 0);
     if s.listed {
         if s.kind == 0 {
-            tell(INTEGER, r, level, 0);
+            tell(out, INTEGER, r, level, 0);
         } else {
-            tell(POINTER, r, shape_of(s.kind), level);
+            tell(out, POINTER, r, shape_of(s.kind), level);
         }
     } else {
-        tell(UNLISTED, r, 0, 0);
+        tell(out, UNLISTED, r, 0, 0);
     }
 }
 
 // The same as a finding.
-pub(crate) fn say_found_typed(r: u32, s: Slot) {
-    say_typed(FOUND, r, s);
-    say_end();
+pub(crate) fn say_found_typed(out: &impl Print, r: u32, s: Slot) {
+    say_typed(out, FOUND, r, s);
+    say_end(out);
 }
 
-fn say_labels(cells: [u32; 16], top: usize) {
+fn say_labels(out: &impl Print, cells: [u32; 16], top: usize) {
     let mut i = top;
     while i < 16 {
-        tell(LABEL, cells[i], 0, 0);
+        tell(out, LABEL, cells[i], 0, 0);
         i += 1;
     }
 }
 
 // A stack, top first.
-pub(crate) fn say_stack(s: Stack) {
+pub(crate) fn say_stack(out: &impl Print, s: Stack) {
     let cells = s.cells;
-    tell((0 < depth(s)) as u32, 0, 0, 0);
-    say_labels(cells, s.top);
+    tell(out, (0 < depth(s)) as u32, 0, 0, 0);
+    say_labels(out, cells, s.top);
 }
 
-fn say_listed(r: u32, s: Slot) {
+fn say_listed(out: &impl Print, r: u32, s: Slot) {
     if s.listed {
-        say_typed(BESIDE, r, s);
+        say_typed(out, BESIDE, r, s);
     }
 }
 
-fn say_registers(registers: [Slot; 16]) {
+fn say_registers(out: &impl Print, registers: [Slot; 16]) {
     let mut r = 1;
     while r < 16 {
-        say_listed(r, slot_at(registers, r));
+        say_listed(out, r, slot_at(registers, r));
         r += 1;
     }
 }
 
 // The context in which an item stands, on a line behind the item's.
-pub(crate) fn say_context(pc: u32, stack: Stack, registers: [Slot; 16]) {
-    tell(HERE, pc, 0, 0);
-    say_stack(stack);
-    say_registers(registers);
-    tell(STOP, 0, 0, 0);
+pub(crate) fn say_context(out: &impl Print, pc: u32, stack: Stack, registers: [Slot; 16]) {
+    tell(out, HERE, pc, 0, 0);
+    say_stack(out, stack);
+    say_registers(out, registers);
+    tell(out, STOP, 0, 0, 0);
 }

@@ -5,7 +5,7 @@ use listing::{
 };
 
 // The parts of a listing of which there are many, one behind the other.
-#[derive(Drop)]
+#[derive(Clone, Copy)]
 pub enum Row {
     Shapes,
     Labels,

@@ -2,9 +2,10 @@
 use crate::out::{say, say_end, say_piece};
 
 // The end of the line before, and the rule. That of refusal n has n bars before it.
-pub(crate) fn say_rule(number: u8) {
-    say(b"\nRule: ");
+pub(crate) fn say_rule(out: &impl Print, number: u8) {
+    say(out, b"\nRule: ");
     say_piece(
+        out,
         b"|\
         a packet goes on to the last byte of its last number|\
         a number has seven bits in each byte, lowest first, the top bit set on all bytes but its last; \
@@ -35,5 +36,5 @@ pub(crate) fn say_rule(number: u8) {
         0,
         0,
     );
-    say_end();
+    say_end(out);
 }

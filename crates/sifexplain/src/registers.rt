@@ -19,8 +19,9 @@ const AS_LISTED: u32 = 5;
 
 const NOT_R0: u32 = 6;
 
-fn tell(text: u32, a: u32, b: u32, c: u32) {
+fn tell(out: &impl Print, text: u32, a: u32, b: u32, c: u32) {
     say_piece(
+        out,
         b"Wanted: a pointer in r#|\
         Wanted: an integer in r#|\
         Wanted: r# listed|\
@@ -49,10 +50,10 @@ fn first_unlisted(registers: [Slot; 16], u: Uses) -> u32 {
     u.rd
 }
 
-pub(crate) fn say_unlisted(registers: [Slot; 16], u: Uses) {
+pub(crate) fn say_unlisted(out: &impl Print, registers: [Slot; 16], u: Uses) {
     let r = first_unlisted(registers, u);
-    tell(LISTED, r, 0, 0);
-    say_found_typed(r, slot_at(registers, r));
+    tell(out, LISTED, r, 0, 0);
+    say_found_typed(out, r, slot_at(registers, r));
 }
 
 // The register of the other sort than is wanted: the pointer's of a load or store, or else the first that should
@@ -67,17 +68,18 @@ fn other_sort(registers: [Slot; 16], u: Uses) -> u32 {
     }
 }
 
-pub(crate) fn say_wrong_sort(registers: [Slot; 16], u: Uses) {
+pub(crate) fn say_wrong_sort(out: &impl Print, registers: [Slot; 16], u: Uses) {
     let r = other_sort(registers, u);
     let s = slot_at(registers, r);
-    tell((0 < s.kind) as u32, r, 0, 0);
-    say_found_typed(r, s);
+    tell(out, (0 < s.kind) as u32, r, 0, 0);
+    say_found_typed(out, r, s);
 }
 
-pub(crate) fn say_no_field(registers: [Slot; 16], u: Uses, numbers: &[u32]) {
+pub(crate) fn say_no_field(out: &impl Print, registers: [Slot; 16], u: Uses, numbers: &[u32]) {
     let s = slot_at(registers, u.through);
     let shape = shape_of(s.kind);
     tell(
+        out,
         FIELDS,
         field_count(numbers, shape_place(numbers, shape)),
         u.field,
@@ -95,16 +97,16 @@ fn field_slot(shape: u32, field: u32, numbers: &[u32]) -> Slot {
     }
 }
 
-pub(crate) fn say_not_the_field(registers: [Slot; 16], u: Uses, numbers: &[u32]) {
+pub(crate) fn say_not_the_field(out: &impl Print, registers: [Slot; 16], u: Uses, numbers: &[u32]) {
     let d = slot_at(registers, u.through);
     let shape = shape_of(d.kind);
-    say_typed(WANTED, u.rs, field_slot(shape, u.field, numbers));
-    tell(AS_FIELD, u.field, shape, 0);
-    say_found_typed(u.rs, slot_at(registers, u.rs));
+    say_typed(out, WANTED, u.rs, field_slot(shape, u.field, numbers));
+    tell(out, AS_FIELD, u.field, shape, 0);
+    say_found_typed(out, u.rs, slot_at(registers, u.rs));
 }
 
-pub(crate) fn say_writes_r0() {
-    tell(NOT_R0, 0, 0, 0);
+pub(crate) fn say_writes_r0(out: &impl Print) {
+    tell(out, NOT_R0, 0, 0, 0);
 }
 
 // The first register that a label lists and that does not come with its kind and level: there is one, so it is
@@ -127,11 +129,11 @@ fn first_unmet(listed: [Slot; 16], now: [Slot; 16]) -> u32 {
 }
 
 // A jump to a label, or a fall into it.
-pub(crate) fn say_not_met(now: [Slot; 16], l: u32, numbers: &[u32]) {
+pub(crate) fn say_not_met(out: &impl Print, now: [Slot; 16], l: u32, numbers: &[u32]) {
     let target = enter(numbers, label_place(numbers, l));
     let listed = target.registers;
     let r = first_unmet(listed, now);
-    say_typed(WANTED, r, slot_at(listed, r));
-    tell(AS_LISTED, l, 0, 0);
-    say_found_typed(r, slot_at(now, r));
+    say_typed(out, WANTED, r, slot_at(listed, r));
+    tell(out, AS_LISTED, l, 0, 0);
+    say_found_typed(out, r, slot_at(now, r));
 }

@@ -23,8 +23,9 @@ const OF_LABEL: u32 = 5;
 
 const FOUND: u32 = 6;
 
-fn tell(text: u32, n: u32) {
+fn tell(out: &impl Print, text: u32, n: u32) {
     say_piece(
+        out,
         b"Wanted: |\
         Wanted: L# on top, and below it |\
         Wanted: stack empty|\
@@ -47,39 +48,39 @@ fn label_stack(numbers: &[u32], l: u32) -> Stack {
 }
 
 // A stack as it is found.
-fn say_found_stack(s: Stack) {
-    tell(FOUND, 0);
-    say_stack(s);
-    say_end();
+fn say_found_stack(out: &impl Print, s: Stack) {
+    tell(out, FOUND, 0);
+    say_stack(out, s);
+    say_end(out);
 }
 
 // A jump, or a fall, to a label, or a cjmp.
-fn say_target_stack(wanted: u32, s: Stack, l: u32, numbers: &[u32]) {
-    tell(wanted, l);
-    say_stack(label_stack(numbers, l));
-    tell(OF_LABEL, l);
-    say_found_stack(s);
+fn say_target_stack(out: &impl Print, wanted: u32, s: Stack, l: u32, numbers: &[u32]) {
+    tell(out, wanted, l);
+    say_stack(out, label_stack(numbers, l));
+    tell(out, OF_LABEL, l);
+    say_found_stack(out, s);
 }
 
-fn say_halt(s: Stack) {
-    tell(NO_STACK, 0);
-    say_found_stack(s);
+fn say_halt(out: &impl Print, s: Stack) {
+    tell(out, NO_STACK, 0);
+    say_found_stack(out, s);
 }
 
-pub(crate) fn say_stack_rule(s: Stack, shows: u32, l: u32, numbers: &[u32]) {
+pub(crate) fn say_stack_rule(out: &impl Print, s: Stack, shows: u32, l: u32, numbers: &[u32]) {
     match shows {
-        HALT => say_halt(s),
-        CJMP => say_target_stack(ON_TOP, s, l, numbers),
-        _ => say_target_stack(JUMP, s, l, numbers),
+        HALT => say_halt(out, s),
+        CJMP => say_target_stack(out, ON_TOP, s, l, numbers),
+        _ => say_target_stack(out, JUMP, s, l, numbers),
     }
 }
 
-pub(crate) fn say_push_past(s: Stack) {
-    tell(PUSH, counted(depth(s)));
+pub(crate) fn say_push_past(out: &impl Print, s: Stack) {
+    tell(out, PUSH, counted(depth(s)));
 }
 
-pub(crate) fn say_first_stack(l: u32, numbers: &[u32]) {
-    say_rule(FIRST_STACK);
-    tell(FIRST, l);
-    say_found_stack(label_stack(numbers, l));
+pub(crate) fn say_first_stack(out: &impl Print, l: u32, numbers: &[u32]) {
+    say_rule(out, FIRST_STACK);
+    tell(out, FIRST, l);
+    say_found_stack(out, label_stack(numbers, l));
 }

@@ -5,7 +5,7 @@ use listing::{Due, Wanted, next};
 use number::Found;
 
 // Where a number begins, and which one is due there.
-#[derive(Drop)]
+#[derive(Clone, Copy)]
 pub struct Stand {
     pub at: usize,
     pub wanted: Wanted,

@@ -20,7 +20,7 @@ pub(crate) const CJMP: u32 = 6;
 // The registers by their names in the item table, 0 where the item has none: r0 breaks no rule of those. What the
 // item does depends on the pc level and on so many `sources`, `through` and rt: `through` is rs, but for a store,
 // which goes through rd.
-#[derive(Drop)]
+#[derive(Clone, Copy)]
 pub struct Uses {
     pub shows: u32,
     pub sources: u32,

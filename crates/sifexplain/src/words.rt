@@ -8,8 +8,9 @@ use listing::number_at;
 const ABOVE: u32 = 32768;
 
 // The name of an item number.
-pub(crate) fn say_name(n: u32) {
+pub(crate) fn say_name(out: &impl Print, n: u32) {
     say_piece(
+        out,
         b"halt|jmp|bnz|load|store|add|sub|and|xor|slt|addi|subi|andi|xori|slti|cpush|cjmp|label",
         n,
         0,
@@ -41,12 +42,13 @@ fn size(n: u32, last: u32) -> u32 {
 }
 
 // Item i, as its line of text will have it.
-pub(crate) fn say_item(numbers: &[u32], i: u32) {
+pub(crate) fn say_item(out: &impl Print, numbers: &[u32], i: u32) {
     let at = item_place(numbers, i) as usize;
     let n = number_at(numbers, at);
     let last = number_at(numbers, at + 3);
-    say_name(n);
+    say_name(out, n);
     say_piece(
+        out,
         b"| L#| r#, L#| r#, r#, #| r#, #, r#| r#, r#, r#| r#, r#, -#",
         form(n, last),
         number_at(numbers, at + 1),
