@@ -1,6 +1,6 @@
 /* The desk box of a rope register, for C: check, erase and run listing packets.
  *
- * Link target/staticlib/libdesk.a, which `rt staticlib desk` writes, for x86-64. Every call is proved to do what
+ * Link crates/desk/out/libdesk.a, which `rt lib` in crates/desk writes, for x86-64. Every call is proved to do what
  * stands here, for every input. Refusals and places are those of document 01, "Refusal numbers".
  *
  * Buffers are bytes with a length in bytes. A word is four bytes, lowest first. A call keeps no pointer and no state,

@@ -1,4 +1,4 @@
-//! Makes the proved library callable. The main build leaves it beside this crate,
+//! Makes the proved library callable. `rt lib` leaves it in its own crate,
 //! for x86-64 on every machine. There it is linked; for another machine a program
 //! with its calls is built, which runs under the kit's emulator.
 
@@ -9,7 +9,7 @@ use std::process::Command;
 
 fn main() {
     let crate_folder = PathBuf::from(variable("CARGO_MANIFEST_DIR"));
-    let folder = crate_folder.join("../target/staticlib");
+    let folder = crate_folder.join("../crates/desk/out");
     let library = folder.join("libdesk.a");
     println!("cargo::rerun-if-changed={}", library.display());
     let machine = variable("CARGO_CFG_TARGET_ARCH");
