@@ -1,29 +1,20 @@
--- 01, "Bench pieces": K1 to K12 as one table under one statement. `Holds` says what a piece claims, of the same definitions that the contracts name; `pieces` is the table, in 01's order; each piece holds by computation.
-use Rattle.std.specs.Prelude.{ℕ, ◌+◌, ◌-◌, ◌≡◌, refl, Bool, true, false, set, take, drop, replicate}
-use mathlib.Core.List.{List, [], ◌∷◌, ◌++◌, flat_map}
-use Rattle.choice.specs.Pick.{pick}
+-- 01, "Bench pieces": K1 to K12 as one table under one statement. `Holds` says what a piece claims, of the same definitions that the contracts name; `pieces` is the table, in 01's order. That each piece holds is proved in proofs/Pieces.antt.
+use Rattle.std.specs.Prelude.{ℕ, ◌+◌, ◌-◌, ◌≡◌, Bool, true, false, set, take, drop, replicate}
+use mathlib.Core.List.{List, [], ◌∷◌, ◌++◌}
 use Rattle.levels.specs.Sets as levels
-use Rattle.machine.specs.Numbers.{CODE_WORDS, HEAP_WORDS, BUDGET, HALTED, RUNNING}
-use Rattle.machine.specs.Arithmetic.{signed_of, slt_of, extend_of, compute_of}
-use Rattle.machine.specs.Word.{whole, kind_at}
-use Rattle.machine.specs.Step.{machine_at, read_of, write_of, does_of, act_of, step_of}
-use Rattle.machine.specs.Run.{after, acted_of, acted, outcome_at, outcome_from, refusal_of, run_of}
-use Rattle.number.specs.Number.{last_of, groups_of}
-use Rattle.number.specs.Encode.{encode_from, encode_of}
+use Rattle.machine.specs.Numbers.{HALTED, RUNNING}
+use Rattle.machine.specs.Arithmetic.{compute_of}
+use Rattle.machine.specs.Step.{machine_at, step_of}
+use Rattle.machine.specs.Run.{outcome_at, run_of}
 use Rattle.listing.specs.declared.items.Item.{Item}
 use Rattle.listing.specs.declared.items.Item.TheVariants.{Halt, Jmp, Bnz, Load, ComputeImmediate, Cpush, Cjmp, Label}
-use Rattle.listing.specs.Listing.{Register, LabelContext, Listing, Each, counted, field_numbers, register_numbers, label_numbers, item_numbers, numbers_of}
-use Rattle.listing.specs.Grammar.{within_of, below_of, shapes_from, fields_from, labels_from, stack_from, registers_from, items_from, operands_from, next_of}
-use Rattle.listing.specs.Packet.{due_then, found_then, numbers_then, numbers_from, numbers_in, taken_then, taken_from, taken_of, end_of}
-use Rattle.listing.specs.Parts.{parts_from, behind, count_of, item_of, size_of, labels_place, items_place, shapes_in, labels_in, items_in}
-use Rattle.listing.specs.Bytes.{bytes_of, packet_bytes}
-use Rattle.rules.specs.Context.{no_registers, with_listed, met_of, same_of}
-use Rattle.rules.specs.Rules.{first_failing, row_of, after_of}
+use Rattle.listing.specs.Listing.{Register, LabelContext, Listing}
+use Rattle.listing.specs.Packet.{numbers_in}
+use Rattle.listing.specs.Bytes.{packet_bytes}
 use Rattle.checker.specs.declared.packets.Checked.{Checked}
 use Rattle.checker.specs.declared.packets.Checked.TheVariants.{Accepted, Refused}
-use Rattle.checker.specs.Walk.{is_label, label_in, block_after, due_row, all_from, is_open, or_else, enter_row, premises_of, walk_from, walk_of}
-use Rattle.checker.specs.Check.{judged_of, checked_by, check_of}
-use Rattle.eraser.specs.Erase.{kept_in, count_behind, pass_from, entered, no_addresses, addresses_of, word_for, code_of}
+use Rattle.checker.specs.Check.{check_of}
+use Rattle.eraser.specs.Erase.{word_for}
 use Rattle.service.specs.Desk.{code_for}
 
 -- what a bench piece may claim
@@ -167,18 +158,3 @@ pieces =
     ∷ stepped (ComputeImmediate 10 1 0 (32768 - 1)) (registers 7 0 0 0) (registers 7 0xFFFFFFFF 0 0)
     ∷ checked K12 (Refused 15 1)
     ∷ []
-
--- each row of the table holds
-pub each_piece_holds : Each Holds pieces
-unfolding Holds pieces flat_map
-    pick last_of groups_of encode_from encode_of
-    counted field_numbers register_numbers label_numbers item_numbers numbers_of bytes_of packet_bytes
-    within_of below_of shapes_from fields_from labels_from stack_from registers_from items_from operands_from next_of
-    due_then found_then numbers_then numbers_from numbers_in taken_then taken_from taken_of end_of
-    parts_from behind count_of item_of size_of labels_place items_place shapes_in labels_in items_in
-    no_registers with_listed met_of same_of first_failing row_of after_of
-    is_label label_in block_after due_row all_from is_open or_else enter_row premises_of walk_from walk_of judged_of checked_by check_of
-    kept_in count_behind pass_from entered no_addresses addresses_of code_of code_for
-    CODE_WORDS HEAP_WORDS BUDGET signed_of slt_of extend_of compute_of whole kind_at read_of write_of does_of act_of step_of
-    after acted_of acted outcome_from refusal_of run_of
-each_piece_holds = (refl, (refl, (refl, (refl, (refl, (refl, (refl, (refl, (refl, (refl, (refl, (refl, (refl, (refl, (refl, (refl, (refl, (refl, (refl, tt)))))))))))))))))))

@@ -1,4 +1,4 @@
--- No accepted routine ever traps, and none tells.
+-- No accepted routine ever traps, and none tells: what is said of runs, and the laws that do not rest on Effects. What does, up to the promise, stands in proofs/: read proofs/Promise.antt first.
 pub mod Contexts  -- the context before each item
 pub mod Halting  -- the context in which a run halts, by its pc
 pub mod Observer  -- what an observer sees, and when starts and ends agree for him
@@ -10,12 +10,6 @@ pub mod RegisterLaws  -- what a write to a register changes, and what a label li
 pub mod WordLaws  -- block words, and what a store changes
 pub mod AgreementLaws  -- agreement lasts where nothing that an observer sees changes
 pub mod PlaceLaws  -- what stands at a place
-pub mod EffectLaws  -- each typed item does one of the four
-pub mod OneRun  -- one run: each item has what it needs, and words outside blocks stay
-pub mod Hidden  -- a step at a hidden pc level
-pub mod Together  -- two runs that do the same item
-pub mod TwoRuns  -- two runs that agree at one place agree where both have halted
-pub mod Starts  -- the same of runs from passing starts
 pub mod Labels  -- the place behind a label
 pub mod ContextLaws  -- a well typed listing is typed at each place
 pub mod Addresses  -- the address of a place, and of a label's target
@@ -24,7 +18,6 @@ pub mod ErasedRun  -- a run over erased code follows the run over the items
 pub mod ListingRun  -- the run of a well typed listing's code from its start
 pub mod Steps  -- a run that never traps makes as many steps as it counts
 pub mod Accepted  -- the listing of an accepted packet
-pub mod Sound  -- the promise over any order of levels
-pub mod Served  -- a desk call that refuses nothing
-pub mod Promise  -- the promise of the desk call: read this first
-pub mod K1  -- K1 is an instance
+pub mod Sound  -- from which starts the promise over any order of levels speaks of runs
+pub mod Promise  -- what the promise of the desk call speaks of
+pub mod K1  -- K1, and calls over it

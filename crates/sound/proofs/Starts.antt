@@ -13,8 +13,8 @@ use Rattle.sound.specs.Items.{spot_at, Ok}
 use Rattle.sound.specs.Setting.{Setting, now_in, after, Halted, WellPlaced, Good}
 use Rattle.sound.specs.Agreement.{Sees, Agree}
 use Rattle.sound.specs.RegisterLaws.{read_other, none_pointer, none_listed, listed_each}
-use Rattle.sound.specs.OneRun.{FrameIn, well_after, ok_after}
-use Rattle.sound.specs.TwoRuns.{halts_agree}
+use Rattle.sound.proofs.OneRun.{FrameIn, well_after, ok_after}
+use Rattle.sound.proofs.TwoRuns.{halts_agree}
 
 -- t is the first label's context, and p the place behind it
 module _ (S : Setting) (t : LabelContext) where

@@ -12,7 +12,7 @@ use Rattle.sound.specs.AgreementLaws.{sees_or_not, agree_both}
 use Rattle.sound.specs.RegisterLaws.{both_written}
 use Rattle.sound.specs.WordLaws.{both_stored}
 use Rattle.sound.specs.Effects.{Way, Branch, retyped, Does, goes, branches, writes, stores}
-use Rattle.sound.specs.Hidden.{way_unchanged, store_unchanged}
+use Rattle.sound.proofs.HiddenStep.{way_unchanged, store_unchanged}
 
 -- two choices: by one test, what holds of both ways holds; by two, what holds of each two ways
 module _ {A : Type 0} (P : A → A → Type 0) (x y x' y' : A) where

@@ -12,10 +12,10 @@ use Rattle.sound.specs.Setting.{Setting, now_in, next, after, Halted, WellPlaced
 use Rattle.sound.specs.Agreement.{Hidden, Agree, Unchanged, strip, Phase, together, apart}
 use Rattle.sound.specs.AgreementLaws.{agree_swap, phase_swap, agree_first, agree_both}
 use Rattle.sound.specs.PlaceLaws.{halt_empty}
-use Rattle.sound.specs.EffectLaws.{does}
-use Rattle.sound.specs.OneRun.{well_next}
-use Rattle.sound.specs.Hidden.{Quiet, stays, drops, quiet}
-use Rattle.sound.specs.Together.{Linked, link_one, linked}
+use Rattle.sound.proofs.EffectLaws.{does}
+use Rattle.sound.proofs.OneRun.{well_next}
+use Rattle.sound.proofs.HiddenStep.{Quiet, stays, drops, quiet}
+use Rattle.sound.proofs.Together.{Linked, link_one, linked}
 
 -- one place has one context
 same_context : (n : Now) (Γ Γ' : Context) → n ≡ inside Γ → n ≡ inside Γ' → Γ ≡ Γ'

@@ -26,7 +26,8 @@ use Rattle.sound.specs.Observer.{Frame, StartsAgree, EndsAgree}
 use Rattle.sound.specs.ListingRun as listing
 use Rattle.sound.specs.Steps.{Steps, NoTrap, counted}
 use Rattle.sound.specs.Accepted.{packet_listing, accepted_ranges, accepted_typed}
-use Rattle.sound.specs.Sound as sound
+use Rattle.sound.specs.Sound.{Start}
+use Rattle.sound.proofs.Sound as sound
 
 -- a call, and the machine that it leaves
 module _ (packet code heap blocks regs : List ℕ) (budget : ℕ) where
@@ -69,7 +70,7 @@ module _ (packet code heap blocks regs : List ℕ) (budget : ℕ) where
     count_is = ap (λ (c : DeskCall). c.answer.count) call_is ∙ ap (λ (o : Outcome). o.count) run_is
 
     module _ (sixteen : length regs ≡ 16) where
-      start : sound.Start (packet_listing packet) (rows_of blocks) regs heap
+      start : Start (packet_listing packet) (rows_of blocks) regs heap
       start = record {
         sixteen = sixteen;
         passing = clear_means (shapes_in (numbers_in packet)) (first_listed (numbers_in packet)) heap (rows_of blocks) regs sizes_and_start.1;

@@ -14,7 +14,7 @@ use Rattle.sound.specs.RegisterLaws.{write_length, written, none_pointer}
 use Rattle.sound.specs.WordLaws.{one_word, stored}
 use Rattle.sound.specs.PlaceLaws.{stands}
 use Rattle.sound.specs.Effects.{Way, retyped, Does, goes, branches, writes, stores}
-use Rattle.sound.specs.EffectLaws.{does, needs_met}
+use Rattle.sound.proofs.EffectLaws.{does, needs_met}
 
 module _ (S : Setting) where
   -- words outside blocks stay
