@@ -1,4 +1,4 @@
--- The desk call at the C border is the desk call on words: on buffers of whole words, vans_desk answers what `desk_of` answers on their words, and leaves in bytes what that leaves in words. So what sound/specs/Promise.antt says of `desk_of` holds of vans_desk.
+-- The desk call at the C border is the desk call on words: on buffers of whole words, vans_desk answers what `desk_of` answers on their words, and leaves in bytes what that leaves in words. So what sound/proofs/Promise.antt says of `desk_of` holds of vans_desk.
 use Rattle.std.specs.Prelude.{ℕ, zero, suc, ◌+◌, ◌*◌, ◌/◌, ◌%◌, ◌<◌, ◌≡◌, refl, Bool, length, get_or, drop}
 use Rattle.std.proofs.Common.{arith, ◌∙◌, drop_of_length-le}
 use Rattle.std.proofs.Math.Path.{sym, ap}
