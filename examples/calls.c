@@ -8,7 +8,7 @@ enum { TEXT = 65536, LENT = 4 * (VANS_HEAP_WORDS + 1) };
 
 static char text[TEXT];
 static const char *at; /* the next character of the line */
-static uint8_t packet[VANS_PACKET_BYTES + 1], code[LENT], heap[LENT], blocks[LENT], regs[LENT];
+static uint8_t packet[VANS_PACKET_BYTES + 1], code[LENT], heap[LENT], blocks[LENT], regs[LENT], numbers[LENT];
 
 /* The whole of a file, at most `room` bytes. */
 static size_t contents(const char *name, void *to, size_t room)
@@ -41,6 +41,13 @@ static uint32_t counted(void)
     uint32_t n = number();
     behind();
     return n;
+}
+
+/* The length in bytes of a buffer that is lent to be written only. */
+static size_t room(void)
+{
+    size_t length = counted();
+    return length < LENT ? length : LENT;
 }
 
 /* Puts a column of words into a buffer; its length in bytes. */
@@ -77,9 +84,7 @@ static size_t named(void)
 
 static uint64_t desk(void)
 {
-    size_t packet_len = named(), code_len = counted();
-    if (code_len > LENT)
-        code_len = LENT;
+    size_t packet_len = named(), code_len = room();
     size_t heap_len = lent(heap), blocks_len = lent(blocks), regs_len = lent(regs);
     return vans_desk(packet, packet_len, code, code_len, heap, heap_len, blocks, blocks_len, regs, regs_len, counted());
 }
@@ -90,17 +95,35 @@ static uint64_t run(void)
     return vans_run(code, code_len, heap, heap_len, regs, regs_len, counted());
 }
 
-static void print_answer(uint64_t answer)
+static uint64_t taken(void)
+{
+    size_t packet_len = named(), numbers_len = room();
+    return vans_read(packet, packet_len, numbers, numbers_len);
+}
+
+static void print_answer(uint64_t answer, const char *done)
 {
     unsigned number = vans_number(answer), count = vans_count(answer);
     if (number == VANS_HALTED)
-        printf("-> HALTED AFTER %u\n", count);
+        printf("-> %s %u\n", done, count);
     else if (number == VANS_BUDGET_USED)
         printf("-> BUDGET USED AFTER %u\n", count);
     else if (number >= VANS_OUTSIDE_CODE)
         printf("-> TRAPPED %u AFTER %u\n", number, count);
     else
         printf("-> REFUSED %u AT %u\n", number, (unsigned)vans_place(answer));
+}
+
+/* Makes the call that a line is, and prints the line anew. */
+static void call(const char *line)
+{
+    int is_desk = line[0] == 'd', is_run = line[1] == 'u';
+    for (at = line; *at != ' ' && *at != '\0'; at++)
+        ;
+    behind();
+    uint64_t answer = is_desk ? desk() : is_run ? run() : taken();
+    printf("%.*s", (int)(at - line), line);
+    print_answer(answer, is_desk || is_run ? "HALTED AFTER" : "READ");
 }
 
 int main(int argc, char **argv)
@@ -111,15 +134,10 @@ int main(int argc, char **argv)
         while (*end != '\n' && *end != '\0')
             end++;
         *end = '\0';
-        if (*line == '#' || *line == '\0') {
+        if (*line == '#' || *line == '\0')
             printf("%s\n", line);
-        } else {
-            int is_desk = *line == 'd';
-            at = line + (is_desk ? sizeof "desk" : sizeof "run");
-            uint64_t answer = is_desk ? desk() : run();
-            printf("%.*s", (int)(at - line), line);
-            print_answer(answer);
-        }
+        else
+            call(line);
         line = end + 1;
     }
     return 0;

@@ -1,6 +1,6 @@
 /* The desk box of a rope register, for C: check, erase and run listing packets.
  *
- * Link target/staticlib/libdesk.a, which `rt staticlib desk` writes, for x86-64. Every call is proved to do what
+ * Link target/staticlib/libvanshorley.a, which `rt staticlib vanshorley` writes, for x86-64. Every call is proved to do what
  * stands here, for every input. Refusals and places are those of document 01, "Refusal numbers".
  *
  * Buffers are bytes with a length in bytes. A word is four bytes, lowest first. A call keeps no pointer and no state,
@@ -47,14 +47,15 @@ static inline uint32_t vans_count(uint64_t answer) { return (uint32_t)answer; }
 uint64_t vans_check(const uint8_t *packet, size_t packet_len);
 
 /* Reads a packet's numbers, in order. 0: the count is of numbers, which stand in front of the buffer, a word each;
- * the bytes behind keep their values. 1 to 6: as vans_check. 35: they do not fit; the place is how many there are.
- * With a refusal nothing is written and the count is 0. */
+ * the bytes behind keep their values. Refusals, in this order: 1 to 6, as vans_check; 35, the numbers do not fit, the
+ * place is how many there are (the buffer counts by whole words); 30 at 0, the buffer is not whole words. With a
+ * refusal nothing is written and the count is 0. */
 uint64_t vans_read(const uint8_t *packet, size_t packet_len, uint8_t *numbers, size_t numbers_len);
 
 /* Checks a packet and writes its code. 0: the count is of code words, which stand in front of the buffer; the bytes
- * behind keep their values. Refusals: those of vans_check; 35, the code does not fit, the place is the words needed
- * (the buffer counts by whole words); 30 at 0, the buffer is not whole words. With a refusal nothing is written and
- * the count is 0. */
+ * behind keep their values. Refusals, in this order: those of vans_check; 35, the code does not fit, the place is the
+ * words needed (the buffer counts by whole words); 30 at 0, the buffer is not whole words. With a refusal nothing is
+ * written and the count is 0. */
 uint64_t vans_erase(const uint8_t *packet, size_t packet_len, uint8_t *code, size_t code_len);
 
 /* The bare machine: runs code over a heap from pc 0. It checks no types: this is not the call for listings that others send.

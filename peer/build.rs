@@ -10,12 +10,12 @@ use std::process::Command;
 fn main() {
     let crate_folder = PathBuf::from(variable("CARGO_MANIFEST_DIR"));
     let folder = crate_folder.join("../target/staticlib");
-    let library = folder.join("libdesk.a");
+    let library = folder.join("libvanshorley.a");
     println!("cargo::rerun-if-changed={}", library.display());
     let machine = variable("CARGO_CFG_TARGET_ARCH");
     if machine == "x86_64" {
         println!("cargo::rustc-link-search=native={}", folder.display());
-        println!("cargo::rustc-link-lib=static=desk");
+        println!("cargo::rustc-link-lib=static=vanshorley");
     } else {
         bridge(&machine, &crate_folder.join("bridge/bridge.c"), &library);
     }

@@ -3,7 +3,8 @@
 use crate::answer;
 use crate::bytes::{words_of, write_words};
 use crate::checker;
-use crate::erase_call::fitting_words;
+use crate::eraser;
+use crate::hand_over::fitting;
 use crate::listing::Listing;
 use crate::packet::{self, Refusal};
 use crate::run_call::{self, Words, BAD_BUFFER};
@@ -42,7 +43,7 @@ fn checked(
     let numbers = packet::read(packet)?;
     let listing = Listing::of(&numbers);
     checker::check(&listing)?;
-    let code_words = fitting_words(&listing, code)?;
+    let code_words = fitting(eraser::erase(listing.items()), code)?;
     check_table(blocks.len())?;
     run_call::check(4 * code_words.len(), heap.len(), regs.len(), budget)?;
     let words = Words::of(heap, regs);

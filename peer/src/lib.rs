@@ -17,6 +17,7 @@ pub mod compare;
 pub mod desk_call;
 pub mod erase_call;
 pub mod eraser;
+pub mod hand_over;
 pub mod lent;
 pub mod listing;
 pub mod machine;

@@ -12,7 +12,7 @@ use Rattle.rules.specs.Context.{target_of}
 use Rattle.checker.specs.declared.blocks.Block.TheVariants.{Start}
 use Rattle.checker.specs.Walk.{accepted, label_in, block_after, walk_of}
 use Rattle.checker.specs.Judgement.{due, Typed, t_eof, t_due, WellTyped}
-use Rattle.checker.specs.Refusal.{Holds, State, start, behind, reached, row_at, AllHold}
+use Rattle.checker.specs.Refusal.{RowHolds, State, start, behind, reached, premises_at, AllHold}
 use Rattle.checker.specs.RefusalLaws.{accepted_holds}
 use Rattle.checker.specs.PlacedLaws.{to_place, once_at_start, placed_length, Owed, placed_end, placed_step}
 use Rattle.checker.specs.TypingLaws.{now_of, Begins, typed_step, typed_end}
@@ -34,9 +34,9 @@ module _ (◌⊑◌ : ℕ → ℕ → Bool) (◌⊔◌ : ℕ → ℕ → ℕ) (s
 
   -- the items from a state on, and the end
   holds_typed : (items : List Item) (s : State) → Each (ItemRange (length labels)) items → length labels ≤ length s.placed
-      → (AllHold ◌⊑◌ ◌⊔◌ shapes labels s items × Holds (row_at ◌⊑◌ ◌⊔◌ shapes labels (reached ◌⊑◌ ◌⊔◌ shapes labels s items) []))
+      → (AllHold ◌⊑◌ ◌⊔◌ shapes labels s items × RowHolds (premises_at ◌⊑◌ ◌⊔◌ shapes labels (reached ◌⊑◌ ◌⊔◌ shapes labels s items) []))
       ↔ (Begins ◌⊑◌ ◌⊔◌ shapes labels s.block items × Typed ◌⊑◌ ◌⊔◌ shapes labels (now_of s.block s.context) items × Owed (length labels) s.placed items)
-  unfolding reached row_at
+  unfolding reached premises_at
   holds_typed [] s ranges room =
       let ended = typed_end ◌⊑◌ ◌⊔◌ shapes labels s.block s.context in
       let placed = placed_end (length labels) s.placed in (

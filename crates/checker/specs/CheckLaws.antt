@@ -23,7 +23,7 @@ use Rattle.checker.specs.declared.blocks.Block.TheVariants.{Start}
 use Rattle.checker.specs.declared.walk.Verdict.{Verdict}
 use Rattle.checker.specs.declared.packets.Checked.{Checked}
 use Rattle.checker.specs.declared.packets.Checked.TheVariants as checked
-use Rattle.checker.specs.Walk.{verdict_of, accepted, block_after, placed_after, or_else, walk_from, walk_of}
+use Rattle.checker.specs.Walk.{verdict_of, accepted, block_after, placed_after, refused_or, walk_from, walk_of}
 use Rattle.checker.specs.Check.{verdict_in, judged_of, checked_by, Checking, checking_of, check_in, check_of}
 
 -- a packet that is taken is within its limit, and has room
@@ -83,8 +83,8 @@ module _ (packet room room' : List ℕ) (t : Taken) (e : reading_of t room' ≡ 
 pub ruleset checks = (refl, front_fits, front_within, front_is, checks_listing, checks_fault, checks_no_room)
 
 -- a refusal of the walk lies within the list
-else_within : (k at end : ℕ) (rest : Verdict) → at ≤ end → rest.place ≤ end → (or_else k at rest).place ≤ end
-unfolding or_else
+else_within : (k at end : ℕ) (rest : Verdict) → at ≤ end → rest.place ≤ end → (refused_or k at rest).place ≤ end
+unfolding refused_or
 else_within k at end rest h p = if_equal (λ (v : Verdict). v.place ≤ end) k 0 rest (verdict_of k at) (λ e. p) (λ e. h)
 
 walk_within : (shapes : List (List Field)) (labels : List LabelContext) (items : List Item) (at : ℕ) (b : Block) (Γ : Context) (placed : List Bool)
@@ -118,8 +118,8 @@ accepted_taken v n (taken.Fault m place) p = let x : ◌≡◌ {A = ℕ} 0 1 = c
 accepted_taken v n taken.NoRoom p = let x : ◌≡◌ {A = ℕ} 0 1 = cc in absurd (omega arith)
 
 -- a verdict of number 0 is the accepting one
-else_zero : (k at : ℕ) (rest : Verdict) → (rest.number ≡ 0 → rest ≡ accepted) → (or_else k at rest).number ≡ 0 → or_else k at rest ≡ accepted
-unfolding or_else
+else_zero : (k at : ℕ) (rest : Verdict) → (rest.number ≡ 0 → rest ≡ accepted) → (refused_or k at rest).number ≡ 0 → refused_or k at rest ≡ accepted
+unfolding refused_or
 else_zero k at rest h = if_equal (λ (v : Verdict). v.number ≡ 0 → v ≡ accepted) k 0 rest (verdict_of k at) (λ z. h) (λ d z. absurd (d z))
 
 walk_zero : (shapes : List (List Field)) (labels : List LabelContext) (items : List Item) (at : ℕ) (b : Block) (Γ : Context) (placed : List Bool)

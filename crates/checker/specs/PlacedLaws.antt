@@ -5,7 +5,7 @@ use Rattle.std.proofs.Math.Decide.{ℕ_discrete}
 use Rattle.std.proofs.Math.Path.{ap}
 use Rattle.std.proofs.Math.Bool.{true, false}
 use Rattle.std.proofs.lemmas.List.{get_or-replicate}
-use Rattle.choice.specs.Pick.{pick, is_equal, not_equal, is_false, both}
+use Rattle.choice.specs.Pick.{pick, is_equal, not_equal, is_false, both_ways}
 use Rattle.listing.specs.declared.items.Item.{Item}
 use Rattle.listing.specs.declared.items.Item.TheVariants.{Halt, Jmp, Bnz, Load, Store, Compute, ComputeImmediate, Cpush, Cjmp, Label}
 use Rattle.listing.specs.Limits.{LABELS}
@@ -40,7 +40,7 @@ once_at_start k h = ap to_place (get_or-replicate LABELS k false false h)
 
 -- placing a label keeps the array's length
 pub placed_length : (placed : List Bool) (i : Item) → length (placed_after placed i) ≡ length placed
-placed_length placed i = both (λ (l : List Bool). length l ≡ length placed) (is_label i) _ _ (length-set placed (label_in i) true) refl
+placed_length placed i = both_ways (λ (l : List Bool). length l ≡ length placed) (is_label i) _ _ (length-set placed (label_in i) true) refl
 
 -- one number, or another
 here_or_other : (Q : ℕ → Type 0) (l k : ℕ) → Q l → ((l ≡ k → ⊥) → Q k) → Q k
@@ -135,13 +135,13 @@ plain_owed n i placed P plain =
     )
 
 -- an item that is passed: a label is free, and what is still to be placed is what is left
-abbrev pub Passing : ℕ → List Bool → List Item → Item → Type 0
-Passing n placed P i = Owed n placed (i ∷ P) ↔ ((is_label i ≡ true → free_of placed (label_in i) ≡ true) × Owed n (placed_after placed i) P)
+abbrev pub Placing : ℕ → List Bool → List Item → Item → Type 0
+Placing n placed P i = Owed n placed (i ∷ P) ↔ ((is_label i ≡ true → free_of placed (label_in i) ≡ true) × Owed n (placed_after placed i) P)
 
-pub placed_step : (n : ℕ) (placed : List Bool) (P : List Item) → n ≤ length placed → (i : Item) → ItemRange n i → Passing n placed P i
+pub placed_step : (n : ℕ) (placed : List Bool) (P : List Item) → n ≤ length placed → (i : Item) → ItemRange n i → Placing n placed P i
 unfolding is_label label_in pick
 placed_step n placed P room =
-    by_label (λ (i : Item). ItemRange n i → Passing n placed P i)
+    by_label (λ (i : Item). ItemRange n i → Placing n placed P i)
     (λ l h. (
       λ o. let x = (label_owed n l placed P h room).0 o in (λ e. x.0, x.1),
       λ x. (label_owed n l placed P h room).1 (x.0 refl, x.1),

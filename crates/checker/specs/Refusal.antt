@@ -1,6 +1,6 @@
 -- 01, "Refusal numbers": what a refusal of the walk says, in the walk's own rows of premises. It names the first place at which a premise fails, and of the premises that fail there the first in the table's order.
-use Rattle.std.specs.Prelude.{ℕ, suc, ◌≤◌, ◌<◌, ◌≡◌, Bool, true, false, List, [], ◌∷◌, ◌++◌, length, replicate, eqb}
-use Rattle.choice.specs.Pick.{pick}
+use Rattle.std.specs.Prelude.{ℕ, ◌≤◌, ◌<◌, ◌≡◌, Bool, true, false, List, [], ◌∷◌, ◌++◌, length, replicate}
+use Rattle.choice.specs.Among.{place_in}
 use Rattle.listing.specs.declared.items.Item.{Item}
 use Rattle.listing.specs.Limits.{LABELS}
 use Rattle.listing.specs.Listing.{Field, LabelContext, EachAfter, Each}
@@ -17,11 +17,6 @@ table_order =
     NO_LABEL ∷ PLACED_TWICE ∷ FIRST_STACK ∷ WRITES_R0 ∷ NOT_LISTED ∷ WRONG_SORT ∷ NO_FIELD ∷ NOT_THE_FIELD ∷ STACK_RULE
     ∷ PUSH_PAST ∷ NOT_MET ∷ LEVEL_RULE ∷ OPEN_END ∷ NEVER_PLACED ∷ []
 
--- where a number stands in a list; its length, where it does not stand in it
-unfoldable pub place_in : List ℕ → ℕ → ℕ
-place_in [] n = 0
-place_in (m ∷ ms) n = pick (eqb m n) 0 (suc (place_in ms n))
-
 -- where a refusal stands in the table
 abbrev pub rank : ℕ → ℕ
 rank number = place_in table_order number
@@ -31,15 +26,15 @@ abbrev pub InOrder : ℕ → List Premise → Type 0
 InOrder = EachAfter (λ (last : ℕ) (p : Premise). (last ≤ rank p.number) × (rank p.number < length table_order)) (λ (p : Premise). rank p.number)
 
 -- each premise of a row holds
-abbrev pub Holds : List Premise → Type 0
-Holds = Each (λ (p : Premise). p.holds ≡ true)
+abbrev pub RowHolds : List Premise → Type 0
+RowHolds = Each (λ (p : Premise). p.holds ≡ true)
 
 -- the first premise of a row that fails has this number
 pub record FirstFailure (row : List Premise) (number : ℕ) : Type 0 where
   pub held : List Premise
   pub others : List Premise
   pub row_is : row ≡ held ++ (number unless false) ∷ others
-  pub held_hold : Holds held
+  pub held_hold : RowHolds held
 
 -- no premise of a row fails below a rank
 abbrev pub NoneBelow : ℕ → List Premise → Type 0
@@ -65,14 +60,14 @@ module _ (◌⊑◌ : ℕ → ℕ → Bool) (◌⊔◌ : ℕ → ℕ → ℕ) (s
   reached s (i ∷ is) = reached (behind s i) is
 
   -- the premises that are due: those of the next item, or of the list's end
-  unfoldable pub row_at : State → List Item → List Premise
-  row_at s [] = end_row (length labels) s.block s.placed
-  row_at s (i ∷ is) = premises_of ◌⊑◌ ◌⊔◌ shapes labels s.block s.context s.placed i
+  unfoldable pub premises_at : State → List Item → List Premise
+  premises_at s [] = end_row (length labels) s.block s.placed
+  premises_at s (i ∷ is) = premises_of ◌⊑◌ ◌⊔◌ shapes labels s.block s.context s.placed i
 
   -- all premises of each item hold, where the walk has reached it
   abbrev pub AllHold : State → List Item → Type 0
   AllHold s [] = Unit
-  AllHold s (i ∷ is) = Holds (row_at s (i ∷ is)) × AllHold (behind s i) is
+  AllHold s (i ∷ is) = RowHolds (premises_at s (i ∷ is)) × AllHold (behind s i) is
 
   -- the first refusal from a state on: all premises of the items before the place hold, and of those that are due at the place, an item's or the end's, the first that fails has the number
   pub record FirstRefusal (s : State) (items : List Item) (number place : ℕ) : Type 0 where
@@ -81,4 +76,4 @@ module _ (◌⊑◌ : ℕ → ℕ → Bool) (◌⊔◌ : ℕ → ℕ → ℕ) (s
     pub items_are : items ≡ passed ++ left
     pub place_is : place ≡ length passed
     pub passed_hold : AllHold s passed
-    pub fails : FirstFailure (row_at (reached s passed) left) number
+    pub fails : FirstFailure (premises_at (reached s passed) left) number

@@ -7,7 +7,7 @@ use Rattle.std.proofs.Common.{subst, ◌∙◌, inl, inr, true≢false, eqb-true
 use Rattle.std.proofs.Math.Logic.{⊎_elim}
 use mathlib.Core.List.{List, [], ◌∷◌, ◌++◌}
 use Rattle.std.proofs.lemmas.Bool.{eqb-false}
-use Rattle.choice.specs.Pick.{pick, is_true, is_equal, both, either}
+use Rattle.choice.specs.Pick.{pick, is_true, is_equal, both_ways, either}
 use Rattle.listing.specs.declared.items.Item.{Item}
 use Rattle.listing.specs.declared.items.Item.TheVariants.{Halt, Jmp, Bnz, Load, Store, Compute, ComputeImmediate, Cpush, Cjmp, Label}
 use Rattle.listing.specs.Listing.{Field, LabelContext}
@@ -16,11 +16,12 @@ use Rattle.rules.specs.Rules.{Premise, ◌unless◌, first_failing, row_of}
 use Rattle.checker.specs.declared.blocks.Block.{Block}
 use Rattle.checker.specs.declared.blocks.Block.TheVariants.{Start, Closed, Open}
 use Rattle.checker.specs.declared.walk.Verdict.{Verdict}
-use Rattle.checker.specs.Walk.{verdict_of, accepted, is_label, label_in, free_of, due_row, enter_row, label_row, or_else, premises_of, walk_from}
-use Rattle.checker.specs.Refusal.{table_order, place_in, rank, InOrder, Holds, FirstFailure, NoneBelow, State, behind, reached, row_at, AllHold, FirstRefusal}
+use Rattle.checker.specs.Walk.{verdict_of, accepted, is_label, label_in, free_of, due_row, enter_row, label_row, refused_or, premises_of, walk_from}
+use Rattle.choice.specs.Among.{place_in}
+use Rattle.checker.specs.Refusal.{table_order, rank, InOrder, RowHolds, FirstFailure, NoneBelow, State, behind, reached, premises_at, AllHold, FirstRefusal}
 
 -- a row all of whose premises hold has no first failure
-holds_pass : (row : List Premise) → Holds row → first_failing row ≡ 0
+holds_pass : (row : List Premise) → RowHolds row → first_failing row ≡ 0
 unfolding first_failing
 holds_pass [] h = refl
 holds_pass (p ∷ ps) h = sym (is_true p.holds _ _ _ h.0 (sym (holds_pass ps h.1)))
@@ -30,7 +31,7 @@ in_table : (n : ℕ) → rank n < length table_order → n ≡ 0 → ⊥
 unfolding place_in table_order pick
 in_table n h e = let z : rank 0 < length table_order = subst (λ (k : ℕ). rank k < length table_order) e h in omega arith
 
-passes_hold : (row : List Premise) (last : ℕ) → InOrder last row → first_failing row ≡ 0 → Holds row
+passes_hold : (row : List Premise) (last : ℕ) → InOrder last row → first_failing row ≡ 0 → RowHolds row
 unfolding first_failing
 passes_hold [] last o e = tt
 passes_hold (p ∷ ps) last o e =
@@ -53,7 +54,7 @@ ranks_rise : (row : List Premise) (last n : ℕ) → n ≤ last → InOrder last
 ranks_rise [] last n h o = tt
 ranks_rise (p ∷ ps) last n h o = (λ e. omega arith, ranks_rise ps (rank p.number) n (omega arith) o.1)
 
-first_of : (held others : List Premise) (number last : ℕ) → Holds held → InOrder last (held ++ (number unless false) ∷ others)
+first_of : (held others : List Premise) (number last : ℕ) → RowHolds held → InOrder last (held ++ (number unless false) ∷ others)
     → NoneBelow (rank number) (held ++ (number unless false) ∷ others)
 first_of [] others number last h o = (λ e. omega arith, ranks_rise others (rank number) (rank number) (omega arith) o.1)
 first_of (p ∷ ps) others number last h o = (λ e. absurd (true≢false (sym h.0 ∙ e)), first_of ps others number (rank p.number) h.1 o.1)
@@ -64,12 +65,12 @@ failure_in_table row number o f =
     (first_of f.held f.others number 0 f.held_hold (subst (InOrder 0) f.row_is o))
 
 -- a verdict is that of what follows, or the refusal
-or_else_lem : (n at : ℕ) (rest v : Verdict) → or_else n at rest ≡ v → ((n ≡ 0) × (rest ≡ v)) ⊎ ((n ≡ 0 → ⊥) × (verdict_of n at ≡ v))
-unfolding or_else
-or_else_lem n at rest v e = ⊎_elim (λ h. inl (eqb-true n 0 h.0, h.1)) (λ h. inr (eqb-false n 0 h.0, h.1)) (either (eqb n 0) rest (verdict_of n at) v e)
+or_else : (n at : ℕ) (rest v : Verdict) → refused_or n at rest ≡ v → ((n ≡ 0) × (rest ≡ v)) ⊎ ((n ≡ 0 → ⊥) × (verdict_of n at ≡ v))
+unfolding refused_or
+or_else n at rest v e = ⊎_elim (λ h. inl (eqb-true n 0 h.0, h.1)) (λ h. inr (eqb-false n 0 h.0, h.1)) (either (eqb n 0) rest (verdict_of n at) v e)
 
-or_else_accepted : (n at : ℕ) (rest : Verdict) → or_else n at rest ≡ accepted → (n ≡ 0) × (rest ≡ accepted)
-or_else_accepted n at rest e = ⊎_elim (λ h. h) (λ h. absurd (h.0 (ap (λ (v : Verdict). v.number) h.1))) (or_else_lem n at rest accepted e)
+or_else_accepted : (n at : ℕ) (rest : Verdict) → refused_or n at rest ≡ accepted → (n ≡ 0) × (rest ≡ accepted)
+or_else_accepted n at rest e = ⊎_elim (λ h. h) (λ h. absurd (h.0 (ap (λ (v : Verdict). v.number) h.1))) (or_else n at rest accepted e)
 
 module _ (◌⊑◌ : ℕ → ℕ → Bool) (◌⊔◌ : ℕ → ℕ → ℕ) (shapes : List (List Field)) (labels : List LabelContext) where
   -- the rows of items in open blocks, of labels, and where a label is due
@@ -99,11 +100,11 @@ module _ (◌⊑◌ : ℕ → ℕ → Bool) (◌⊔◌ : ℕ → ℕ → ℕ) (s
   due_in_order Open row o = o
 
   -- 01's table: an item's premises, and the end's, stand in its order
-  pub in_table_order : (s : State) (items : List Item) → InOrder 0 (row_at ◌⊑◌ ◌⊔◌ shapes labels s items)
-  unfolding row_at premises_of place_in table_order pick
+  pub in_table_order : (s : State) (items : List Item) → InOrder 0 (premises_at ◌⊑◌ ◌⊔◌ shapes labels s items)
+  unfolding premises_at premises_of place_in table_order pick
   in_table_order s [] = omega arith
   in_table_order s (i ∷ is) =
-      both (InOrder 0) (is_label i) _ _ (enter_in_order s.block s.context (free_of s.placed (label_in i)) (target_of labels (label_in i)))
+      both_ways (InOrder 0) (is_label i) _ _ (enter_in_order s.block s.context (free_of s.placed (label_in i)) (target_of labels (label_in i)))
       (due_in_order s.block _ (row_in_order s.context i))
 
   -- the walk from a state on
@@ -112,8 +113,8 @@ module _ (◌⊑◌ : ℕ → ℕ → Bool) (◌⊔◌ : ℕ → ℕ → ℕ) (s
 
   -- a walk is accepted exactly where every premise holds
   pub accepted_holds : (items : List Item) (at : ℕ) (s : State)
-      → (walk_at s items at ≡ accepted) ↔ (AllHold ◌⊑◌ ◌⊔◌ shapes labels s items × Holds (row_at ◌⊑◌ ◌⊔◌ shapes labels (reached ◌⊑◌ ◌⊔◌ shapes labels s items) []))
-  unfolding walk_from or_else reached row_at
+      → (walk_at s items at ≡ accepted) ↔ (AllHold ◌⊑◌ ◌⊔◌ shapes labels s items × RowHolds (premises_at ◌⊑◌ ◌⊔◌ shapes labels (reached ◌⊑◌ ◌⊔◌ shapes labels s items) []))
+  unfolding walk_from refused_or reached premises_at
   accepted_holds [] at s = (
     λ e. (tt, passes_hold _ 0 (in_table_order s []) (or_else_accepted _ at accepted e).0),
     λ h. sym (is_equal _ 0 accepted accepted (verdict_of _ at) (holds_pass _ h.1) refl),
@@ -132,7 +133,7 @@ module _ (◌⊑◌ : ℕ → ℕ → Bool) (◌⊔◌ : ℕ → ℕ → ℕ) (s
   abbrev RefusedFrom : State → List Item → ℕ → ℕ → ℕ → Type 0
   RefusedFrom s items at number place = (k : ℕ) × (place ≡ at + k) × FirstRefusal ◌⊑◌ ◌⊔◌ shapes labels s items number k
 
-  refused_here : (items : List Item) (at : ℕ) (s : State) (number place : ℕ) → 0 < number → verdict_of (first_failing (row_at ◌⊑◌ ◌⊔◌ shapes labels s items)) at ≡ verdict_of number place
+  refused_here : (items : List Item) (at : ℕ) (s : State) (number place : ℕ) → 0 < number → verdict_of (first_failing (premises_at ◌⊑◌ ◌⊔◌ shapes labels s items)) at ≡ verdict_of number place
       → RefusedFrom s items at number place
   unfolding reached
   refused_here items at s number place z e =
@@ -142,9 +143,9 @@ module _ (◌⊑◌ : ℕ → ℕ → Bool) (◌⊔◌ : ℕ → ℕ → ℕ) (s
         record { passed = []; left = items; items_are = refl; place_is = refl; passed_hold = tt; fails = failure_is_first _ number z (ap (λ (v : Verdict). v.number) e) },
       )
 
-  refused_later : (i : Item) (is : List Item) (at : ℕ) (s : State) (number place : ℕ) → Holds (row_at ◌⊑◌ ◌⊔◌ shapes labels s (i ∷ is))
+  refused_later : (i : Item) (is : List Item) (at : ℕ) (s : State) (number place : ℕ) → RowHolds (premises_at ◌⊑◌ ◌⊔◌ shapes labels s (i ∷ is))
       → RefusedFrom (behind ◌⊑◌ ◌⊔◌ shapes labels s i) is (at + 1) number place → RefusedFrom s (i ∷ is) at number place
-  unfolding reached row_at
+  unfolding reached premises_at
   refused_later i is at s number place h (k, place_is, r) = (
     suc k,
     omega arith,
@@ -159,12 +160,12 @@ module _ (◌⊑◌ : ℕ → ℕ → Bool) (◌⊔◌ : ℕ → ℕ → ℕ) (s
   )
 
   pub refused_first : (items : List Item) (at : ℕ) (s : State) (number place : ℕ) → 0 < number → walk_at s items at ≡ verdict_of number place → RefusedFrom s items at number place
-  unfolding walk_from row_at
+  unfolding walk_from premises_at
   refused_first [] at s number place z e =
       ⊎_elim (λ h. let none : 0 ≡ number = ap (λ (v : Verdict). v.number) h.1 in absurd (omega arith)) (λ h. refused_here [] at s number place z h.1)
-      (or_else_lem _ at accepted (verdict_of number place) e)
+      (or_else _ at accepted (verdict_of number place) e)
   refused_first (i ∷ is) at s number place z e =
       let next : State = behind ◌⊑◌ ◌⊔◌ shapes labels s i in
       ⊎_elim (λ h. refused_later i is at s number place (passes_hold _ 0 (in_table_order s (i ∷ is)) h.0) (refused_first is (at + 1) next number place z h.1))
       (λ h. refused_here (i ∷ is) at s number place z h.1)
-      (or_else_lem _ at (walk_at next is (at + 1)) (verdict_of number place) e)
+      (or_else _ at (walk_at next is (at + 1)) (verdict_of number place) e)

@@ -13,51 +13,51 @@ use Rattle.rules.specs.Context.{INTEGER, typed, Context, context_of, slot_at, en
 use Rattle.rules.specs.Rules.{first_failing, jump_row, halt_row, bnz_row, load_row, store_row, compute_row, compute_immediate_row, cpush_row, cjmp_row, row_of, after_of}
 
 module _ (shapes : List (List Field)) (labels : List LabelContext) (Γ : Context) (item : Item) where
-  abbrev Row : Item → ℕ
-  Row i = first_failing (row_of below_of join_of shapes labels Γ i)
+  abbrev FirstOfRow : Item → ℕ
+  FirstOfRow i = first_failing (row_of below_of join_of shapes labels Γ i)
 
   -- the first refusal; t is the context of the label that the item names
   module _ (r : ℕ) where
-    pub row_halt : item ≡ Halt → r ≡ first_failing (halt_row Γ) → r ≡ Row item
+    pub row_halt : item ≡ Halt → r ≡ first_failing (halt_row Γ) → r ≡ FirstOfRow item
     unfolding row_of
-    row_halt e p = p ∙ ap Row (sym e)
+    row_halt e p = p ∙ ap FirstOfRow (sym e)
 
-    pub row_load : (rd rs c : ℕ) → item ≡ Load rd rs c → r ≡ first_failing (load_row below_of join_of Γ rd rs c shapes) → r ≡ Row item
+    pub row_load : (rd rs c : ℕ) → item ≡ Load rd rs c → r ≡ first_failing (load_row below_of join_of Γ rd rs c shapes) → r ≡ FirstOfRow item
     unfolding row_of
-    row_load rd rs c e p = p ∙ ap Row (sym e)
+    row_load rd rs c e p = p ∙ ap FirstOfRow (sym e)
 
-    pub row_store : (rd c rs : ℕ) → item ≡ Store rd c rs → r ≡ first_failing (store_row below_of join_of Γ rd c rs shapes) → r ≡ Row item
+    pub row_store : (rd c rs : ℕ) → item ≡ Store rd c rs → r ≡ first_failing (store_row below_of join_of Γ rd c rs shapes) → r ≡ FirstOfRow item
     unfolding row_of
-    row_store rd c rs e p = p ∙ ap Row (sym e)
+    row_store rd c rs e p = p ∙ ap FirstOfRow (sym e)
 
-    pub row_compute : (op rd rs rt : ℕ) → item ≡ Compute op rd rs rt → r ≡ first_failing (compute_row below_of join_of Γ rd rs rt) → r ≡ Row item
+    pub row_compute : (op rd rs rt : ℕ) → item ≡ Compute op rd rs rt → r ≡ first_failing (compute_row below_of join_of Γ rd rs rt) → r ≡ FirstOfRow item
     unfolding row_of
-    row_compute op rd rs rt e p = p ∙ ap Row (sym e)
+    row_compute op rd rs rt e p = p ∙ ap FirstOfRow (sym e)
 
-    pub row_compute_immediate : (op rd rs i : ℕ) → item ≡ ComputeImmediate op rd rs i → r ≡ first_failing (compute_immediate_row below_of join_of Γ rd rs) → r ≡ Row item
+    pub row_compute_immediate : (op rd rs i : ℕ) → item ≡ ComputeImmediate op rd rs i → r ≡ first_failing (compute_immediate_row below_of join_of Γ rd rs) → r ≡ FirstOfRow item
     unfolding row_of
-    row_compute_immediate op rd rs i e p = p ∙ ap Row (sym e)
+    row_compute_immediate op rd rs i e p = p ∙ ap FirstOfRow (sym e)
 
     module _ (l : ℕ) (t : LabelContext) (there : t ≡ get_or labels l nowhere) where
-      pub row_jmp : item ≡ Jmp l → r ≡ first_failing (jump_row below_of join_of Γ.level Γ t) → r ≡ Row item
+      pub row_jmp : item ≡ Jmp l → r ≡ first_failing (jump_row below_of join_of Γ.level Γ t) → r ≡ FirstOfRow item
       unfolding row_of
-      row_jmp e p = p ∙ ap (λ (x : LabelContext). first_failing (jump_row below_of join_of Γ.level Γ x)) there ∙ ap Row (sym e)
+      row_jmp e p = p ∙ ap (λ (x : LabelContext). first_failing (jump_row below_of join_of Γ.level Γ x)) there ∙ ap FirstOfRow (sym e)
 
-      pub row_label : item ≡ Label l → r ≡ first_failing (jump_row below_of join_of Γ.level Γ t) → r ≡ Row item
+      pub row_label : item ≡ Label l → r ≡ first_failing (jump_row below_of join_of Γ.level Γ t) → r ≡ FirstOfRow item
       unfolding row_of
-      row_label e p = p ∙ ap (λ (x : LabelContext). first_failing (jump_row below_of join_of Γ.level Γ x)) there ∙ ap Row (sym e)
+      row_label e p = p ∙ ap (λ (x : LabelContext). first_failing (jump_row below_of join_of Γ.level Γ x)) there ∙ ap FirstOfRow (sym e)
 
-      pub row_bnz : (rs : ℕ) → item ≡ Bnz rs l → r ≡ first_failing (bnz_row below_of join_of Γ rs t) → r ≡ Row item
+      pub row_bnz : (rs : ℕ) → item ≡ Bnz rs l → r ≡ first_failing (bnz_row below_of join_of Γ rs t) → r ≡ FirstOfRow item
       unfolding row_of
-      row_bnz rs e p = p ∙ ap (λ (x : LabelContext). first_failing (bnz_row below_of join_of Γ rs x)) there ∙ ap Row (sym e)
+      row_bnz rs e p = p ∙ ap (λ (x : LabelContext). first_failing (bnz_row below_of join_of Γ rs x)) there ∙ ap FirstOfRow (sym e)
 
-      pub row_cpush : item ≡ Cpush l → r ≡ first_failing (cpush_row below_of join_of Γ t) → r ≡ Row item
+      pub row_cpush : item ≡ Cpush l → r ≡ first_failing (cpush_row below_of join_of Γ t) → r ≡ FirstOfRow item
       unfolding row_of
-      row_cpush e p = p ∙ ap (λ (x : LabelContext). first_failing (cpush_row below_of join_of Γ x)) there ∙ ap Row (sym e)
+      row_cpush e p = p ∙ ap (λ (x : LabelContext). first_failing (cpush_row below_of join_of Γ x)) there ∙ ap FirstOfRow (sym e)
 
-      pub row_cjmp : item ≡ Cjmp l → r ≡ first_failing (cjmp_row Γ l t) → r ≡ Row item
+      pub row_cjmp : item ≡ Cjmp l → r ≡ first_failing (cjmp_row Γ l t) → r ≡ FirstOfRow item
       unfolding row_of
-      row_cjmp e p = p ∙ ap (λ (x : LabelContext). first_failing (cjmp_row Γ l x)) there ∙ ap Row (sym e)
+      row_cjmp e p = p ∙ ap (λ (x : LabelContext). first_failing (cjmp_row Γ l x)) there ∙ ap FirstOfRow (sym e)
 
   abbrev After : Item → Context
   After i = after_of below_of join_of shapes labels Γ i
@@ -114,7 +114,7 @@ pub push_room : (shapes : List (List Field)) (labels : List LabelContext) (level
     → first_failing (row_of below_of join_of shapes labels (context_of level stack registers) item) ≡ 0 → length stack < STACK
 unfolding row_of first_failing
 push_room shapes labels level stack registers item l e p =
-    elim (either (ltb (length stack) STACK) _ _ 0 (ap (Row shapes labels (context_of level stack registers) item) (sym e) ∙ p)) [
+    elim (either (ltb (length stack) STACK) _ _ 0 (ap (FirstOfRow shapes labels (context_of level stack registers) item) (sym e) ∙ p)) [
       | inl h ↦ ltb-true _ _ h.0
       | inr h ↦ absurd (omega arith)
     ]

@@ -12,6 +12,7 @@ use Rattle.listing.specs.Limits.{SHAPES, FIELDS, LABELS, STACK, REGISTERS, TOP_L
 use Rattle.listing.specs.Listing.{Field}
 use Rattle.listing.specs.Parts.{parts_from, behind, number_at, count_of, count_at, field_at, shape_at, behind_shape, register_at, registers_place, label_at, behind_label, labels_place, shapes_in, labels_in}
 use Rattle.listing.specs.PartLaws.{parts_none, parts_length, part_stands, no_part, behind_equal}
+use Rattle.listing.specs.PlaceLaws.{further}
 use Rattle.rules.specs.Context.{nowhere, no_field, fields_of}
 use Rattle.rules.specs.HeldLaws.{count_within}
 
@@ -164,10 +165,10 @@ module _ (ns table : List ℕ) (kind r : ℕ) (is : table ≡ shape_table ns) wh
       let first : 0 ≡ kind - 1 = omega arith in
       shape_in ns table 0 r is (omega arith) e ∙ ap (λ (i : ℕ). get_or (shapes_in ns) i []) first
 
-  pub shape_there : kind < SHAPES + 1 → 1 ≤ kind → r ≡ get_or table (kind - 1) 0 → shape_at ns r ≡ fields_of (shapes_in ns) kind
+  pub shape_there : kind ≤ SHAPES → 1 ≤ kind → r ≡ get_or table (kind - 1) 0 → shape_at ns r ≡ fields_of (shapes_in ns) kind
   shape_there h k e = shape_in ns table (kind - 1) r is (omega arith) e
 
-  pub shape_not_there : SHAPES + 1 ≤ kind → r ≡ length ns → shape_at ns r ≡ fields_of (shapes_in ns) kind
+  pub shape_not_there : SHAPES < kind → r ≡ length ns → shape_at ns r ≡ fields_of (shapes_in ns) kind
   shape_not_there h e = shape_out ns table (kind - 1) r is (omega arith) e
 
 pub ruleset finds = (refl, label_there, label_not_there, shape_first, shape_there, shape_not_there)
@@ -198,7 +199,7 @@ labels_begin ns table n place p e t =
     let all : count_at LABELS ns (labels_place ns) ≡ n - 0 = ap (count_at LABELS ns) (sym p) ∙ sym e ∙ omega arith in
     λ i. tabled_from (behind_label ns) (sym p i + 1) 0 (all i) (sym t i)
 
-pub ruleset tablings = (refl, shapes_begin, labels_begin, table_turn, table_end)
+pub ruleset tablings = (refl, further, shapes_begin, labels_begin, table_turn, table_end)
 
 -- a field of a shape, of which there are n
 module _ (ns : List ℕ) (place c n : ℕ) (counted : n ≡ count_at FIELDS ns place) where

@@ -15,7 +15,7 @@ use Rattle.checker.specs.declared.blocks.Block.{Block}
 use Rattle.checker.specs.declared.blocks.Block.TheVariants.{Start, Closed, Open}
 use Rattle.checker.specs.Walk.{is_label, label_in, free_of, block_after, due_row, is_open, enter_row, label_row, premises_of}
 use Rattle.checker.specs.Judgement.{Now, due, inside, st_reg_bank, Typed, t_eof, t_due, t_label, t_halt, t_jmp, t_cond_brnch, t_arith, t_arithi, t_load, t_store, t_cpush, t_cjmp}
-use Rattle.checker.specs.Refusal.{Holds}
+use Rattle.checker.specs.Refusal.{RowHolds}
 use Rattle.checker.specs.TestLaws.{empty_stack, same_stacks, exactly_is, listed_is, integer_is, met_lists, field_is}
 use Rattle.checker.specs.PlacedLaws.{by_label}
 
@@ -29,7 +29,7 @@ module _ (◌⊑◌ : ℕ → ℕ → Bool) (◌⊔◌ : ℕ → ℕ → ℕ) wh
   infix 5 ◌⊑◌
   infix 6 ◌⊔◌
   -- a jump's premises are those of ST_RegBank
-  jump_typed : (l : ℕ) (Γ : Context) (t : LabelContext) → Holds (jump_row ◌⊑◌ ◌⊔◌ l Γ t) ↔ st_reg_bank ◌⊑◌ ◌⊔◌ l Γ t
+  jump_typed : (l : ℕ) (Γ : Context) (t : LabelContext) → RowHolds (jump_row ◌⊑◌ ◌⊔◌ l Γ t) ↔ st_reg_bank ◌⊑◌ ◌⊔◌ l Γ t
   jump_typed l Γ t = (
     λ h. record { stack = (same_stacks Γ.stack t.stack).0 h.0; registers = (met_lists Γ.registers t.registers).0 h.1.0; level = h.1.1.0 },
     λ r. ((same_stacks Γ.stack t.stack).1 r.stack, ((met_lists Γ.registers t.registers).1 r.registers, (r.level, tt))),
@@ -51,7 +51,7 @@ module _ (◌⊑◌ : ℕ → ℕ → Bool) (◌⊔◌ : ℕ → ℕ → ℕ) wh
     TypedBehind Γ i P = Typing (now_of (block_after i) (after_of ◌⊑◌ ◌⊔◌ shapes labels Γ i)) P
 
     -- in an open block: from the premises to the rule, and from the rule to the premises
-    row_typed : (Γ : Context) (i : Item) (P : List Item) → Holds (row Γ i) → TypedBehind Γ i P → Typing (inside Γ) (i ∷ P)
+    row_typed : (Γ : Context) (i : Item) (P : List Item) → RowHolds (row Γ i) → TypedBehind Γ i P → Typing (inside Γ) (i ∷ P)
     unfolding row_of after_of now_of block_after
     row_typed Γ Halt P h t = t_halt Γ P ((empty_stack Γ.stack).0 h.0) t
     row_typed Γ (Jmp l) P h t = t_jmp Γ l P ((jump_typed Γ.level Γ (target l)).0 h) t
@@ -83,7 +83,7 @@ module _ (◌⊑◌ : ℕ → ℕ → Bool) (◌⊔◌ : ℕ → ℕ → ℕ) wh
     row_typed Γ (Cjmp l) P (top, (met, u)) t = t_cjmp Γ l P ((same_stacks Γ.stack (l ∷ (target l).stack)).0 top) ((met_lists Γ.registers (target l).registers).0 met) t
     row_typed Γ (Label l) P h t = t_label Γ l P ((jump_typed Γ.level Γ (target l)).0 h) t
 
-    typed_row : (Γ : Context) (i : Item) (P : List Item) → Typing (inside Γ) (i ∷ P) → Holds (row Γ i) × TypedBehind Γ i P
+    typed_row : (Γ : Context) (i : Item) (P : List Item) → Typing (inside Γ) (i ∷ P) → RowHolds (row Γ i) × TypedBehind Γ i P
     unfolding row_of after_of now_of block_after
     typed_row Γ i P (t_label Γ₁ l P₁ r t) = ((jump_typed Γ.level Γ (target l)).1 r, t)
     typed_row Γ i P (t_halt Γ₁ P₁ e t) = (((empty_stack Γ.stack).1 e, tt), t)
@@ -110,7 +110,7 @@ module _ (◌⊑◌ : ℕ → ℕ → Bool) (◌⊔◌ : ℕ → ℕ → ℕ) wh
     due_entered l P (t_due l₁ P₁ t) = t
 
     label_step : (b : Block) (Γ : Context) (free : Bool) (l : ℕ) (P : List Item)
-        → (Holds (label_row ◌⊑◌ ◌⊔◌ b Γ free (target l)) × Typing (inside (entered (target l))) P) ↔ ((free ≡ true) × Begins b (Label l ∷ P) × Typing (now_of b Γ) (Label l ∷ P))
+        → (RowHolds (label_row ◌⊑◌ ◌⊔◌ b Γ free (target l)) × Typing (inside (entered (target l))) P) ↔ ((free ≡ true) × Begins b (Label l ∷ P) × Typing (now_of b Γ) (Label l ∷ P))
     unfolding enter_row now_of row_of after_of block_after label_in
     label_step Start Γ free l P = (
       λ x. (x.0.0, (empty_stack (target l).stack).0 x.0.1.0, t_due l P x.1),
@@ -128,7 +128,7 @@ module _ (◌⊑◌ : ℕ → ℕ → Bool) (◌⊔◌ : ℕ → ℕ → ℕ) wh
     due_label i P e (t_due l P₁ t) = true≢false e
 
     plain_step : (b : Block) (Γ : Context) (i : Item) (P : List Item) → is_label i ≡ false
-        → (Holds (due_row b (row Γ i)) × TypedBehind Γ i P) ↔ (Begins b (i ∷ P) × Typing (now_of b Γ) (i ∷ P))
+        → (RowHolds (due_row b (row Γ i)) × TypedBehind Γ i P) ↔ (Begins b (i ∷ P) × Typing (now_of b Γ) (i ∷ P))
     unfolding due_row now_of
     plain_step Start Γ i P e = (λ x. absurd (true≢false (sym x.0.0)), λ y. absurd (due_label i P e y.1))
     plain_step Closed Γ i P e = (λ x. absurd (true≢false (sym x.0.0)), λ y. absurd (due_label i P e y.1))
@@ -137,7 +137,7 @@ module _ (◌⊑◌ : ℕ → ℕ → Bool) (◌⊔◌ : ℕ → ℕ → ℕ) wh
     -- any item: its premises hold and what stands behind it is typed, exactly where it is typed with what stands behind it, and is no label that is placed already
     abbrev pub Step : Block → Context → List Bool → List Item → Item → Type 0
     Step b Γ placed P i =
-        (Holds (premises_of ◌⊑◌ ◌⊔◌ shapes labels b Γ placed i) × TypedBehind Γ i P)
+        (RowHolds (premises_of ◌⊑◌ ◌⊔◌ shapes labels b Γ placed i) × TypedBehind Γ i P)
         ↔ ((is_label i ≡ true → free_of placed (label_in i) ≡ true) × Begins b (i ∷ P) × Typing (now_of b Γ) (i ∷ P))
 
     pub typed_step : (b : Block) (Γ : Context) (placed : List Bool) (P : List Item) (i : Item) → Step b Γ placed P i
@@ -152,8 +152,8 @@ module _ (◌⊑◌ : ℕ → ℕ → Bool) (◌⊔◌ : ℕ → ℕ → ℕ) wh
         (λ i plain.
         let h = plain_step b Γ i P plain.no_label in
         let other : due_row b (row Γ i) ≡ premises_of ◌⊑◌ ◌⊔◌ shapes labels b Γ placed i = is_false (is_label i) _ _ _ plain.no_label refl in (
-          λ x. let y = h.0 (subst Holds (sym other) x.0, x.1) in (λ e. absurd (true≢false (sym e ∙ plain.no_label)), y.0, y.1),
-          λ y. let x = h.1 (y.1, y.2) in (subst Holds other x.0, x.1),
+          λ x. let y = h.0 (subst RowHolds (sym other) x.0, x.1) in (λ e. absurd (true≢false (sym e ∙ plain.no_label)), y.0, y.1),
+          λ y. let x = h.1 (y.1, y.2) in (subst RowHolds other x.0, x.1),
         ))
 
     -- the end: no block is open

@@ -86,8 +86,8 @@ abbrev pub end_row : ℕ → Block → List Bool → List Premise
 end_row n b placed = (OPEN_END unless pick (is_open b) false true) ∷ (NEVER_PLACED unless all_from placed 0 n) ∷ []
 
 -- the refusal n of the item or end at a place, or what follows where there is none
-unfoldable pub or_else : ℕ → ℕ → Verdict → Verdict
-or_else n at rest = pick (eqb n 0) rest (verdict_of n at)
+unfoldable pub refused_or : ℕ → ℕ → Verdict → Verdict
+refused_or n at rest = pick (eqb n 0) rest (verdict_of n at)
 
 module _ (◌⊑◌ : ℕ → ℕ → Bool) (◌⊔◌ : ℕ → ℕ → ℕ) where
   -- a label: the first has an empty stack, and one that is reached from an open block is fallen into
@@ -109,9 +109,9 @@ module _ (◌⊑◌ : ℕ → ℕ → Bool) (◌⊔◌ : ℕ → ℕ → ℕ) wh
 
     -- the walk from an item on
     unfoldable pub walk_from : List Item → ℕ → Block → Context → List Bool → Verdict
-    walk_from [] at b Γ placed = or_else (first_failing (end_row (length labels) b placed)) at accepted
+    walk_from [] at b Γ placed = refused_or (first_failing (end_row (length labels) b placed)) at accepted
     walk_from (i ∷ is) at b Γ placed =
-        or_else (first_failing (premises_of b Γ placed i)) at (walk_from is (at + 1) (block_after i) (after_of ◌⊑◌ ◌⊔◌ shapes labels Γ i) (placed_after placed i))
+        refused_or (first_failing (premises_of b Γ placed i)) at (walk_from is (at + 1) (block_after i) (after_of ◌⊑◌ ◌⊔◌ shapes labels Γ i) (placed_after placed i))
 
   -- the walk of a listing; no label is placed at its start
   unfoldable pub walk_of : Listing → Verdict

@@ -1,5 +1,5 @@
 -- Laws for the code of the walk: one for each way through it. `placings` holds those for the placed labels, `turns` those for the loop over the items.
-use Prim.Native.Nat.{ℕ, suc, ◌+◌, ◌-◌, ◌*◌, ◌^◌, ◌<◌, ◌≤◌}
+use Prim.Native.Nat.{ℕ, suc, ◌+◌, ◌-◌, ◌<◌, ◌≤◌}
 use native.Mathlib.Omega.{arith}
 use Rattle.std.specs.Prelude.{◌≡◌, Bool, true, false, length, get_or, set, replicate, eqb}
 use Rattle.std.proofs.Math.Path.{refl, sym, ap}
@@ -12,9 +12,8 @@ use Rattle.listing.specs.declared.items.Item.{Item}
 use Rattle.listing.specs.declared.items.Item.TheVariants.{Halt, Jmp, Bnz, Load, Store, Compute, ComputeImmediate, Cpush, Cjmp, Label}
 use Rattle.listing.specs.Limits.{LABELS, ITEMS}
 use Rattle.listing.specs.Listing.{Field, LabelContext}
-use Rattle.listing.specs.Parts.{parts_from, number_at, count_at, item_of, item_at, behind_item, label_at, behind_label, labels_place, items_place, shapes_in, labels_in, items_in, listing_in}
+use Rattle.listing.specs.Parts.{parts_from, number_at, count_at, item_of, item_at, item_size, behind_item, label_at, behind_label, labels_place, items_place, shapes_in, labels_in, items_in, listing_in}
 use Rattle.listing.specs.PartLaws.{parts_more, parts_none, parts_length}
-use Rattle.listing.specs.PlaceLaws.{ITEM_NUMBERS, TOP_ITEMS_PLACE}
 use Rattle.rules.specs.declared.contexts.Slot.{Slot}
 use Rattle.rules.specs.Numbers.{NO_LABEL, PLACED_TWICE, FIRST_STACK, OPEN_END, NEVER_PLACED}
 use Rattle.rules.specs.Context.{typed, Context, context_of, no_registers, entered, nowhere}
@@ -23,8 +22,8 @@ use Rattle.checker.specs.declared.items.Write.{Write}
 use Rattle.checker.specs.declared.blocks.Block.{Block}
 use Rattle.checker.specs.declared.blocks.Block.TheVariants.{Start, Closed, Open}
 use Rattle.checker.specs.declared.walk.Verdict.{Verdict}
-use Rattle.checker.specs.Writes.{write_of, written, writes}
-use Rattle.checker.specs.Walk.{verdict_of, accepted, is_label, label_in, free_of, placed_after, block_after, due_row, all_from, is_open, or_else, enter_row, label_row, premises_of, end_row, walk_from, walk_of}
+use Rattle.checker.specs.Writes.{write_of, context_written, writes}
+use Rattle.checker.specs.Walk.{verdict_of, accepted, is_label, label_in, free_of, placed_after, block_after, due_row, all_from, is_open, refused_or, enter_row, label_row, premises_of, end_row, walk_from, walk_of}
 
 -- the placed labels
 module _ (placed : List Bool) (l : ℕ) where
@@ -125,12 +124,12 @@ module _ (b : Block) (placed : List Bool) (n at k x : ℕ) (all closed : Bool) (
   unfolding first_failing
   end_refusal = first ∙ (λ j. pick (block_asked j) ((missing ∙ ap (λ (y : Bool). pick y 0 NEVER_PLACED) placings_asked) j) OPEN_END)
 
-  pub ends_accepted : k ≡ 0 → accepted ≡ or_else (first_failing (end_row n b placed)) at accepted
-  unfolding or_else
+  pub ends_accepted : k ≡ 0 → accepted ≡ refused_or (first_failing (end_row n b placed)) at accepted
+  unfolding refused_or
   ends_accepted z = is_equal _ 0 _ _ _ (sym end_refusal ∙ z) refl
 
-  pub ends_refused : (k ≡ 0 → ⊥) → verdict_of k at ≡ or_else (first_failing (end_row n b placed)) at accepted
-  unfolding or_else
+  pub ends_refused : (k ≡ 0 → ⊥) → verdict_of k at ≡ refused_or (first_failing (end_row n b placed)) at accepted
+  unfolding refused_or
   ends_refused d = not_equal _ 0 _ _ _ (λ z. d (end_refusal ∙ z)) (ap (λ (y : ℕ). verdict_of y at) end_refusal)
 
 pub ruleset blocks = (refl, due_start, due_closed, due_open, label_start, label_closed, label_open, ends_accepted, ends_refused)
@@ -158,7 +157,7 @@ module _ (whole : Verdict) (ns : List ℕ) (shapes : List (List Field)) (labels 
 
   module _ (inv : whole ≡ WalkFrom at i b Γ placed) where
     module _ (left : i < n) (item : Item) (read : item ≡ item_at ns at) where
-      one_item : whole ≡ or_else (first_failing (premises_of below_of join_of shapes labels b Γ placed item)) i
+      one_item : whole ≡ refused_or (first_failing (premises_of below_of join_of shapes labels b Γ placed item)) i
           (WalkFrom (behind_item ns at) (i + 1) (block_after item) (after_of below_of join_of shapes labels Γ item) (placed_after placed item))
       unfolding walk_from
       one_item =
@@ -171,11 +170,11 @@ module _ (whole : Verdict) (ns : List ℕ) (shapes : List (List Field)) (labels 
       module _ (k : ℕ) (refusal : k ≡ first_failing (premises_of below_of join_of shapes labels b Γ placed item)) where
         goes_on : (next : Verdict) → k ≡ 0
             → WalkFrom (behind_item ns at) (i + 1) (block_after item) (after_of below_of join_of shapes labels Γ item) (placed_after placed item) ≡ next → whole ≡ next
-        unfolding or_else
+        unfolding refused_or
         goes_on next z p = one_item ∙ sym (is_equal _ 0 _ _ _ (sym refusal ∙ z) (sym p))
 
         stops : (k ≡ 0 → ⊥) → verdict_of k i ≡ whole
-        unfolding or_else
+        unfolding refused_or
         stops d = sym (one_item ∙ sym (not_equal _ 0 _ _ _ (λ z. d (refusal ∙ z)) (ap (λ (x : ℕ). verdict_of x i) refusal)))
 
       -- an item that is no label
@@ -184,18 +183,18 @@ module _ (whole : Verdict) (ns : List ℕ) (shapes : List (List Field)) (labels 
         unfolding premises_of
         as_other = refusal ∙ ap first_failing (is_false (is_label item) _ _ _ (sym asked ∙ other) refl)
 
-        pub other_turn : (Γ' : Context) (b' : Block) (at' : ℕ) → k ≡ 0 → Γ' ≡ after_of below_of join_of shapes labels Γ item → b' ≡ block_after item → at' ≡ behind_item ns at
-            → whole ≡ WalkFrom at' (i + 1) b' Γ' placed
-        other_turn Γ' b' at' z p q s =
+        pub other_turn : (Γ' : Context) (b' : Block) (size : ℕ) → k ≡ 0 → Γ' ≡ after_of below_of join_of shapes labels Γ item → b' ≡ block_after item → size ≡ item_size (number_at ns at)
+            → whole ≡ WalkFrom (at + size) (i + 1) b' Γ' placed
+        other_turn Γ' b' size z p q s =
             goes_on k as_other _ z
-            (λ j. WalkFrom (sym s j) (i + 1) (sym q j) (sym p j) (sym (is_false (is_label item) _ (set placed (label_in item) true) placed (sym asked ∙ other) refl) j))
+            (λ j. WalkFrom (at + sym s j) (i + 1) (sym q j) (sym p j) (sym (is_false (is_label item) _ (set placed (label_in item) true) placed (sym asked ∙ other) refl) j))
 
         -- a register that the item writes
-        write_on : (w : Write) (registers : List Slot) (at' : ℕ) → k ≡ 0 → w ≡ write_of shapes Γ.registers item → w.at < 16
-            → registers ≡ set Γ.registers w.at (typed w.kind w.level) → at' ≡ behind_item ns at → whole ≡ WalkFrom at' (i + 1) Open (context_of Γ.level Γ.stack registers) placed
-        write_on w registers at' z p h s t =
+        write_on : (w : Write) (registers : List Slot) (size : ℕ) → k ≡ 0 → w ≡ write_of shapes Γ.registers item → w.at < 16
+            → registers ≡ set Γ.registers w.at (typed w.kind w.level) → size ≡ item_size (number_at ns at) → whole ≡ WalkFrom (at + size) (i + 1) Open (context_of Γ.level Γ.stack registers) placed
+        write_on w registers size z p h s t =
             let behind = writes below_of join_of shapes labels Γ item (omega (arith, ap (λ (x : Write). x.at) p)) in
-            other_turn (context_of Γ.level Γ.stack registers) Open at' z (ap (context_of Γ.level Γ.stack) s ∙ ap (written Γ) p ∙ sym behind.1) (sym behind.0) t
+            other_turn (context_of Γ.level Γ.stack registers) Open size z (ap (context_of Γ.level Γ.stack) s ∙ ap (context_written Γ) p ∙ sym behind.1) (sym behind.0) t
 
         pub other_stop : (k ≡ 0 → ⊥) → verdict_of k i ≡ whole
         other_stop = stops k as_other
@@ -219,23 +218,23 @@ module _ (whole : Verdict) (ns : List ℕ) (shapes : List (List Field)) (labels 
             ∙ (λ j. first_failing (label_row below_of join_of b Γ ((unplaced ∙ ap (free_of placed) its_label) j) (its_context j)))
             ∙ ap first_failing (is_true (is_label item) _ _ _ (sym asked ∙ is) refl)
 
-        pub label_turn : (Γ' : Context) (placed' : List Bool) (at' : ℕ) → k ≡ 0 → Γ' ≡ entered t → placed' ≡ set placed l true → at' ≡ behind_item ns at
-            → whole ≡ WalkFrom at' (i + 1) Open Γ' placed'
-        label_turn Γ' placed' at' z p q s =
+        pub label_turn : (Γ' : Context) (placed' : List Bool) (size : ℕ) → k ≡ 0 → Γ' ≡ entered t → placed' ≡ set placed l true → size ≡ item_size (number_at ns at)
+            → whole ≡ WalkFrom (at + size) (i + 1) Open Γ' placed'
+        label_turn Γ' placed' size z p q s =
             goes_on k as_label _ z
             (λ j.
-            WalkFrom (sym s j) (i + 1) ((label_opens shapes labels Γ item (sym asked ∙ is)).0 j)
+            WalkFrom (at + sym s j) (i + 1) ((label_opens shapes labels Γ item (sym asked ∙ is)).0 j)
             (((label_opens shapes labels Γ item (sym asked ∙ is)).1 ∙ ap entered (sym its_context) ∙ sym p) j)
             ((sym (is_true (is_label item) _ _ placed (sym asked ∙ is) refl) ∙ ap (λ (x : ℕ). set placed x true) (sym its_label) ∙ sym q) j))
 
         pub label_stop : (k ≡ 0 → ⊥) → verdict_of k i ≡ whole
         label_stop = stops k as_label
 
-    pub at_end : (v : Verdict) (m : ℕ) → n ≤ i → m ≡ length labels → v ≡ or_else (first_failing (end_row m b placed)) i accepted → v ≡ whole
+    pub at_end : (v : Verdict) (m : ℕ) → n ≤ i → m ≡ length labels → v ≡ refused_or (first_failing (end_row m b placed)) i accepted → v ≡ whole
     unfolding walk_from
     at_end v m h e p =
         p
-        ∙ ap (λ (x : ℕ). or_else (first_failing (end_row x b placed)) i accepted) e
+        ∙ ap (λ (x : ℕ). refused_or (first_failing (end_row x b placed)) i accepted) e
         ∙ sym (inv ∙ ap (λ (is : List Item). walk_from below_of join_of shapes labels is i b Γ placed) (parts_none (item_at ns) (behind_item ns) at (n - i) (omega arith)))
 
 -- the same of a context by its parts
@@ -243,11 +242,11 @@ pub write_turn : (whole : Verdict) (ns : List ℕ) (shapes : List (List Field)) 
     → whole ≡ walk_from below_of join_of shapes labels (parts_from (item_at ns) (behind_item ns) at (n - i)) i b (context_of level stack registers) placed
     → i < n → (item : Item) → item ≡ item_at ns at → (f : Bool) → f ≡ is_label item → f ≡ false
     → (k : ℕ) → k ≡ first_failing (due_row b (row_of below_of join_of shapes labels (context_of level stack registers) item)) → k ≡ 0
-    → (w : Write) (rd : ℕ) (registers' : List Slot) (at' : ℕ) → w ≡ write_of shapes registers item → rd ≡ w.at → rd < 16
-    → registers' ≡ set registers rd (typed w.kind w.level) → at' ≡ behind_item ns at
-    → whole ≡ walk_from below_of join_of shapes labels (parts_from (item_at ns) (behind_item ns) at' (n - (i + 1))) (i + 1) Open (context_of level stack registers') placed
-write_turn whole ns shapes labels at i n b level stack registers placed inv left item read f asked other k refusal z w rd registers' at' p q h s =
-    write_on whole ns shapes labels at i n b (context_of level stack registers) placed inv left item read f asked other k refusal w registers' at' z p (omega (arith, q))
+    → (w : Write) (rd : ℕ) (registers' : List Slot) (size : ℕ) → w ≡ write_of shapes registers item → rd ≡ w.at → rd < 16
+    → registers' ≡ set registers rd (typed w.kind w.level) → size ≡ item_size (number_at ns at)
+    → whole ≡ walk_from below_of join_of shapes labels (parts_from (item_at ns) (behind_item ns) (at + size) (n - (i + 1))) (i + 1) Open (context_of level stack registers') placed
+write_turn whole ns shapes labels at i n b level stack registers placed inv left item read f asked other k refusal z w rd registers' size p q h s =
+    write_on whole ns shapes labels at i n b (context_of level stack registers) placed inv left item read f asked other k refusal w registers' size z p (omega (arith, q))
     (s ∙ ap (λ (x : ℕ). set registers x (typed w.kind w.level)) q)
 
 -- where the loop begins
@@ -262,8 +261,4 @@ pub labels_counted : (ns : List ℕ) (place n : ℕ) → place ≡ labels_place 
 unfolding labels_in
 labels_counted ns place n p e = e ∙ ap (count_at LABELS ns) p ∙ sym (parts_length (label_at ns) (behind_label ns) (labels_place ns + 1) (count_at LABELS ns (labels_place ns)))
 
--- no item stands far on
-pub item_near : (at place i n : ℕ) → at ≤ place + 1 + ITEM_NUMBERS * i → place ≤ TOP_ITEMS_PLACE → i ≤ n → n ≤ ITEMS → at < 2 ^ 31
-item_near at place i n h p q r = omega arith
-
-pub ruleset turns = (refl, item_near, due_holds, other_turn, other_stop, label_turn, label_stop, at_end, walk_begins, labels_counted)
+pub ruleset turns = (refl, due_holds, other_turn, other_stop, label_turn, label_stop, at_end, walk_begins, labels_counted)

@@ -47,13 +47,13 @@ module _ (shapes : List (List Field)) (registers : List Slot) (item : Item) (r :
 pub ruleset writings = (refl, write_load, write_compute, write_compute_immediate)
 
 -- the context with what is written
-abbrev pub written : Context → Write → Context
-written Γ w = context_of Γ.level Γ.stack (set Γ.registers w.at (typed w.kind w.level))
+abbrev pub context_written : Context → Write → Context
+context_written Γ w = context_of Γ.level Γ.stack (set Γ.registers w.at (typed w.kind w.level))
 
 -- behind an item that writes a register the block is open, in that context
 module _ (◌⊑◌ : ℕ → ℕ → Bool) (◌⊔◌ : ℕ → ℕ → ℕ) (shapes : List (List Field)) (labels : List LabelContext) (Γ : Context) where
   pub writes : (i : Item) → (write_of shapes Γ.registers i).at < 16
-      → (block_after i ≡ Open) × (after_of ◌⊑◌ ◌⊔◌ shapes labels Γ i ≡ written Γ (write_of shapes Γ.registers i))
+      → (block_after i ≡ Open) × (after_of ◌⊑◌ ◌⊔◌ shapes labels Γ i ≡ context_written Γ (write_of shapes Γ.registers i))
   unfolding block_after after_of
   writes (Load rd rs c) h = (refl, refl)
   writes (Compute op rd rs rt) h = (refl, refl)

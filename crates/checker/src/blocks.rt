@@ -11,6 +11,7 @@ ghost use Rattle.checker.specs.Tables.{shape_table, label_table};
 
 use crate::items::rule;
 use listing::Item;
+use listing::limits::{LABELS, SHAPES};
 use rules::numbers::{FIRST_STACK, NO_LABEL, PLACED_TWICE};
 use rules::{Held, jump, label_depth, unless};
 
@@ -78,8 +79,8 @@ pub fn item_fault(
     c: Held,
     item: Item,
     numbers: &[u32],
-    shapes: &[u32; 64],
-    labels: &[u32; 128],
+    shapes: &[u32; SHAPES as usize],
+    labels: &[u32; LABELS as usize],
 ) -> u8
     requires numbers_len_bound { length numbers.now ≤ BYTES }
     requires shapes_value { shapes.now ≡ shape_table numbers.now }

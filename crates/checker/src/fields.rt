@@ -9,10 +9,18 @@ ghost use Rattle.rules.specs.Held.{context_in};
 ghost use Rattle.checker.specs.Tables.{shape_table};
 
 use crate::tables::{field_count, field_kind, field_level, shape_place};
+use listing::limits::SHAPES;
 use rules::{Held, slot_at};
 
 // The first refusal of a load, 0 for none.
-pub fn load(c: Held, rd: u32, rs: u32, field: u32, numbers: &[u32], shapes: &[u32; 64]) -> u8
+pub fn load(
+    c: Held,
+    rd: u32,
+    rs: u32,
+    field: u32,
+    numbers: &[u32],
+    shapes: &[u32; SHAPES as usize],
+) -> u8
     requires numbers_len_bound { length numbers.now ≤ BYTES }
     requires shapes_value { shapes.now ≡ shape_table numbers.now }
     ensures { result ≡ first_failing (load_row below_of join_of (context_in c) rd rs field (shapes_in numbers.now)) }
@@ -31,7 +39,14 @@ pub fn load(c: Held, rd: u32, rs: u32, field: u32, numbers: &[u32], shapes: &[u3
 }
 
 // The first refusal of a store.
-pub fn store(c: Held, rd: u32, field: u32, rs: u32, numbers: &[u32], shapes: &[u32; 64]) -> u8
+pub fn store(
+    c: Held,
+    rd: u32,
+    field: u32,
+    rs: u32,
+    numbers: &[u32],
+    shapes: &[u32; SHAPES as usize],
+) -> u8
     requires numbers_len_bound { length numbers.now ≤ BYTES }
     requires shapes_value { shapes.now ≡ shape_table numbers.now }
     ensures { result ≡ first_failing (store_row below_of join_of (context_in c) rd field rs (shapes_in numbers.now)) }
@@ -50,7 +65,13 @@ pub fn store(c: Held, rd: u32, field: u32, rs: u32, numbers: &[u32], shapes: &[u
 }
 
 // The kind of the field that rs points to.
-pub fn loaded_kind(c: Held, rs: u32, field: u32, numbers: &[u32], shapes: &[u32; 64]) -> u8
+pub fn loaded_kind(
+    c: Held,
+    rs: u32,
+    field: u32,
+    numbers: &[u32],
+    shapes: &[u32; SHAPES as usize],
+) -> u8
     requires numbers_len_bound { length numbers.now ≤ BYTES }
     requires shapes_value { shapes.now ≡ shape_table numbers.now }
     ensures { result ≡ (field_of (shapes_in numbers.now) (slot_at c.registers rs).kind field).kind }

@@ -13,13 +13,20 @@ use crate::fields::{load, loaded_kind, store};
 use crate::tables::label_place;
 use levels::join;
 use listing::Item;
+use listing::limits::{LABELS, SHAPES};
 use rules::{
-    Held, Slot, Stack, bnz, cjmp, compute, compute_immediate, cpush, enter, halt, jump, slot_at,
-    with_slot,
+    CELLS, Held, Slot, Stack, bnz, cjmp, compute, compute_immediate, cpush, enter, halt, jump,
+    slot_at, with_slot,
 };
 
 // The first refusal of an item, 0 for none; a label is fallen into.
-pub fn rule(c: Held, item: Item, numbers: &[u32], shapes: &[u32; 64], labels: &[u32; 128]) -> u8
+pub fn rule(
+    c: Held,
+    item: Item,
+    numbers: &[u32],
+    shapes: &[u32; SHAPES as usize],
+    labels: &[u32; LABELS as usize],
+) -> u8
     requires numbers_len_bound { length numbers.now ≤ BYTES }
     requires shapes_value { shapes.now ≡ shape_table numbers.now }
     requires labels_value { labels.now ≡ label_table numbers.now }
@@ -108,7 +115,7 @@ fn no_write() -> Write
 }
 
 // What arithmetic or a load writes.
-pub fn write_of(c: Held, item: Item, numbers: &[u32], shapes: &[u32; 64]) -> Write
+pub fn write_of(c: Held, item: Item, numbers: &[u32], shapes: &[u32; SHAPES as usize]) -> Write
     requires numbers_len_bound { length numbers.now ≤ BYTES }
     requires shapes_value { shapes.now ≡ shape_table numbers.now }
     ensures { result ≡ write_of (shapes_in numbers.now) c.registers item }
@@ -134,15 +141,18 @@ fn push(s: Stack, l: u32) -> Stack
 {
     let top = s.top;
     let mut cells = s.cells;
-    if top < 16 {
+    if top < CELLS {
         cells[top - 1] = l;
         return Stack {
             top: top - 1,
             cells,
         };
     }
-    cells[15] = l;
-    Stack { top: 15, cells }
+    cells[CELLS - 1] = l;
+    Stack {
+        top: CELLS - 1,
+        cells,
+    }
 }
 
 // The context with a label on top of its stack.
@@ -165,8 +175,8 @@ pub fn held_after(
     c: Held,
     item: Item,
     numbers: &[u32],
-    shapes: &[u32; 64],
-    labels: &[u32; 128],
+    shapes: &[u32; SHAPES as usize],
+    labels: &[u32; LABELS as usize],
 ) -> Held
     requires numbers_len_bound { length numbers.now ≤ BYTES }
     requires shapes_value { shapes.now ≡ shape_table numbers.now }

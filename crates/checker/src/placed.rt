@@ -3,13 +3,14 @@ ghost use Rattle.std.specs.Prelude.{◌≡◌, ◌≤◌, set, true};
 ghost use Rattle.listing.specs.Limits.{LABELS};
 ghost use Rattle.checker.specs.Walk.{free_of, all_from};
 
+use listing::limits::LABELS;
+
 // Whether a label is not placed yet.
-pub fn free(placed: [bool; 128], l: u32) -> bool
+pub fn free(placed: [bool; LABELS as usize], l: u32) -> bool
     ensures { result ≡ free_of placed l }
 {
-    let i = l as usize;
-    if i < 128 {
-        if placed[i] {
+    if l < LABELS {
+        if placed[l as usize] {
             return false;
         }
         return true;
@@ -18,20 +19,19 @@ pub fn free(placed: [bool; 128], l: u32) -> bool
 }
 
 // The same with a label placed.
-pub fn with_placed(placed: [bool; 128], l: u32) -> [bool; 128]
+pub fn with_placed(placed: [bool; LABELS as usize], l: u32) -> [bool; LABELS as usize]
     ensures { result ≡ set placed l true }
 {
-    let i = l as usize;
     let mut after = placed;
-    if i < 128 {
-        after[i] = true;
+    if l < LABELS {
+        after[l as usize] = true;
         return after;
     }
     after
 }
 
 // Whether each of the first n labels is placed.
-pub fn all_placed(placed: [bool; 128], n: u32) -> bool
+pub fn all_placed(placed: [bool; LABELS as usize], n: u32) -> bool
     requires { n ≤ LABELS }
     ensures { result ≡ all_from placed 0 n }
 {

@@ -5,15 +5,15 @@ ghost use Rattle.listing.specs.Limits.{BYTES, LABELS};
 ghost use Rattle.listing.specs.Parts.{labels_in, listing_in, items_place};
 ghost use Rattle.listing.specs.PlaceLaws.{TOP_ITEMS_PLACE};
 ghost use Rattle.rules.specs.Rules.{first_failing};
-ghost use Rattle.checker.specs.Walk.{accepted, or_else, end_row, walk_of};
+ghost use Rattle.checker.specs.Walk.{accepted, refused_or, end_row, walk_of};
 ghost use Rattle.checker.specs.Tables.{shape_table, label_table};
 
 use crate::blocks::{Block, block_after, is_closed, is_label, item_fault, label_fault};
 use crate::items::{held_after, write_of};
 use crate::placed::{all_placed, free, with_placed};
 use crate::tables::{label_place, label_table, shape_table};
-use listing::limits::{ITEMS, LABELS};
-use listing::{behind_item, count_at, item_at, items_place, labels_place, number_at};
+use listing::limits::{ALL_REGISTERS, ITEMS, LABELS, SHAPES};
+use listing::{count_at, item_at, item_size, items_place, labels_place, number_at};
 use rules::numbers::{NEVER_PLACED, OPEN_END};
 use rules::{Slot, enter, nothing, unless};
 
@@ -25,9 +25,9 @@ pub struct Verdict {
 }
 
 // The end of a list of so many items, whose first n labels are its own.
-fn end(block: Block, placed: [bool; 128], n: u32, at: u32) -> Verdict
+fn end(block: Block, placed: [bool; LABELS as usize], n: u32, at: u32) -> Verdict
     requires { n ≤ LABELS }
-    ensures { result ≡ or_else (first_failing (end_row n block placed)) at accepted }
+    ensures { result ≡ refused_or (first_failing (end_row n block placed)) at accepted }
 {
     let all = unless(NEVER_PLACED, all_placed(placed, n), 0);
     let k = unless(OPEN_END, is_closed(block), all);
@@ -46,8 +46,8 @@ fn end(block: Block, placed: [bool; 128], n: u32, at: u32) -> Verdict
 // The walk over the items, whose count stands at a place.
 fn walk_items(
     numbers: &[u32],
-    shapes: &[u32; 64],
-    labels: &[u32; 128],
+    shapes: &[u32; SHAPES as usize],
+    labels: &[u32; LABELS as usize],
     n: u32,
     place: u32,
 ) -> Verdict
@@ -63,7 +63,7 @@ fn walk_items(
     let count = count_at(ITEMS, numbers, place);
     let mut block = Block::Start;
     let mut held = nothing();
-    let mut placed = [false; 128];
+    let mut placed = [false; LABELS as usize];
     let mut at = place + 1;
     let mut i = 0;
     while i < count {
@@ -78,7 +78,7 @@ fn walk_items(
                 let entered = enter(numbers, target);
                 held = entered;
                 block = Block::Open;
-                at = behind_item(numbers, at);
+                at += item_size(numbers, at);
                 i += 1;
             } else {
                 return Verdict {
@@ -91,20 +91,20 @@ fn walk_items(
             if k == 0 {
                 let write = write_of(held, item, numbers, shapes);
                 let rd = write.at as usize;
-                if rd < 16 {
+                if rd < ALL_REGISTERS {
                     held.registers[rd] = Slot {
                         listed: true,
                         kind: write.kind,
                         level: write.level,
                     };
                     block = Block::Open;
-                    at = behind_item(numbers, at);
+                    at += item_size(numbers, at);
                     i += 1;
                 } else {
                     let after = held_after(held, item, numbers, shapes, labels);
                     held = after;
                     block = block_after(item);
-                    at = behind_item(numbers, at);
+                    at += item_size(numbers, at);
                     i += 1;
                 }
             } else {

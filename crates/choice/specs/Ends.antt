@@ -1,4 +1,5 @@
--- Past a list's end there is nothing to read, and nothing is written there: for functions that test an index before they use it. `ends` holds the laws for a search.
+-- Past a list's end there is nothing to read, and nothing is written there: for functions that test an index before
+-- they use it. `ends` holds the laws for a search.
 use Rattle.std.specs.Prelude.{ℕ, ◌≤◌, ◌≡◌, List, length, get_or, set}
 use Rattle.std.proofs.Common.{arith, sym, ◌∙◌}
 use Rattle.std.proofs.Math.ListN.{get_or-eq_default}

@@ -1,4 +1,5 @@
--- The choice by a test. Every definition of the project chooses by `pick`, and a proof never opens it: each law below has the shape of a branch's goal, `r ≡ pick test x y`, and as premises what the code knows in that branch.
+-- The choice by a test. Every definition of the project chooses by `pick`, and a proof never opens it: each law below
+-- has the shape of a branch's goal, `r ≡ pick test x y`, and as premises what the code knows in that branch.
 -- `cases` holds them for a search. The laws below it are for proofs over definitions.
 use Rattle.std.specs.Prelude.{ℕ, ◌<◌, ◌≤◌, ◌≡◌, Bool, ◌⊎◌, ltb, eqb}
 use Rattle.std.proofs.Math.Path.{refl, ap}
@@ -48,10 +49,10 @@ pub ruleset cases = (refl, other_literal, literal_less, literal_not_less, is_les
 
 -- what holds of both ways, each under its test, holds of the choice; a function goes through a choice; what a choice is, one of its ways is
 module _ {A : Type 0} where
-  pub both : (P : A → Type 0) (t : Bool) (x y : A) → P x → P y → P (pick t x y)
+  pub both_ways : (P : A → Type 0) (t : Bool) (x y : A) → P x → P y → P (pick t x y)
   unfolding pick
-  both P true x y p q = p
-  both P false x y p q = q
+  both_ways P true x y p q = p
+  both_ways P false x y p q = q
 
   pub each_way : (P : A → Type 0) (t : Bool) (x y : A) → (t ≡ true → P x) → (t ≡ false → P y) → P (pick t x y)
   unfolding pick

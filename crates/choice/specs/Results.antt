@@ -1,4 +1,5 @@
--- A promise equates what a call returns with a definition, so any two results that meet it are equal. A call that also writes lent words has a statement of its own, in its crate's `Unique`.
+-- A promise equates what a call returns with a definition, so any two results that meet it are equal. A call that also
+-- writes lent words has a statement of its own, in its crate's `Unique`.
 use Rattle.std.specs.Prelude.{◌≡◌}
 use Rattle.std.proofs.Common.{sym, ◌∙◌}
 

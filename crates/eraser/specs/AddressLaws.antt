@@ -1,4 +1,5 @@
--- The addresses of labels: the table behind a row of items, from the tables of its parts; a label's entry is the count at its last place; and every count and address is small.
+-- The addresses of labels: the table behind a row of items, from the tables of its parts; a label's entry is the count
+-- at its last place; and every count and address is small.
 use Prim.Native.Nat.{ℕ, zero, suc, ◌+◌, ◌≤◌, ◌<◌}
 use Rattle.std.proofs.Common.{add-zero, zero-add, arith, sym, ap, ◌∙◌, length-set, get_or-set_same, get_or-set_other}
 use Rattle.std.specs.Prelude.{◌≡◌, refl, Bool, true, false, length, get_or, set, replicate}
@@ -11,7 +12,7 @@ use Rattle.listing.specs.Limits.{LABELS, ITEMS}
 use Rattle.listing.specs.Listing.{Each}
 use Rattle.listing.specs.Parts.{parts_from, count_at, items_place, items_in}
 use Rattle.listing.specs.PlaceLaws.{count_held}
-use Rattle.eraser.specs.Erase.{kept_of, kept_in, needed_of, count_behind, pass_from, label_of, entered, addresses_from, no_addresses, addresses_of, address_at}
+use Rattle.eraser.specs.Erase.{kept_of, kept_in, needed_of, count_behind, pass_from, label_of, address_entered, addresses_from, no_addresses, addresses_of, address_at}
 use Rattle.eraser.specs.PassLaws.{needed_more}
 
 -- no item of a row places the label
@@ -20,14 +21,14 @@ Unplaced l = Each (λ (i : Item). i ≡ Label l → ⊥)
 
 -- two rows
 addresses_append : (xs ys : List Item) (count : ℕ) (t : List ℕ) → addresses_from (xs ++ ys) count t ≡ addresses_from ys (count + needed_of xs) (addresses_from xs count t)
-unfolding pass_from entered needed_of kept_in
+unfolding pass_from address_entered needed_of kept_in
 addresses_append [] ys count t = ap (λ (n : ℕ). addresses_from ys n t) (sym (add-zero count))
 addresses_append (i ∷ xs) ys count t =
     addresses_append xs ys (count_behind i count) (set t (label_of i) count)
     ∙ ap (λ (n : ℕ). addresses_from ys n (addresses_from (i ∷ xs) count t)) (sym (needed_more i xs count))
 
 addresses_length : (items : List Item) (count : ℕ) (t : List ℕ) → length (addresses_from items count t) ≡ length t
-unfolding pass_from entered
+unfolding pass_from address_entered
 addresses_length [] count t = refl
 addresses_length (i ∷ items) count t = addresses_length items _ _ ∙ length-set t (label_of i) count
 
@@ -46,14 +47,14 @@ placed_label l (Label k) h e = ap Label (sym e)
 
 -- an entry stays while its label is not placed
 entry_stays : (l : ℕ) → l < LABELS → (items : List Item) (count : ℕ) (t : List ℕ) → Unplaced l items → address_at (addresses_from items count t) l ≡ address_at t l
-unfolding pass_from entered
+unfolding pass_from address_entered
 entry_stays l h [] count t u = refl
 entry_stays l h (i ∷ items) count t u =
     entry_stays l h items _ _ u.1 ∙ get_or-set_other t (label_of i) l count 0 (λ e. u.0 (placed_label l i h e))
 
 -- a label is entered with the count of kept items before it
 pub entry_is_count : (front behind : List Item) (l : ℕ) → Unplaced l behind → l < LABELS → address_at (addresses_of (front ++ Label l ∷ behind)) l ≡ needed_of front
-unfolding addresses_of pass_from entered no_addresses
+unfolding addresses_of pass_from address_entered no_addresses
 entry_is_count front behind l u h =
     let t : List ℕ = addresses_from front 0 no_addresses in
     let count : ℕ = 0 + needed_of front in
@@ -99,7 +100,7 @@ module _ (top : ℕ) where
   low_set (x ∷ t) (suc k) n h p (suc l) = low_set t k n (λ j. h (suc j)) p l
 
   low_addresses : (items : List Item) (count : ℕ) (t : List ℕ) → count + needed_of items ≤ top → Low t → Low (addresses_from items count t)
-  unfolding pass_from entered
+  unfolding pass_from address_entered
   low_addresses [] count t p h = h
   low_addresses (i ∷ items) count t p h =
       low_addresses items (count_behind i count) _ (omega (arith, needed_more i items count)) (low_set t (label_of i) count h (omega arith))

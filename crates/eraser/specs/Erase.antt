@@ -1,4 +1,6 @@
--- 01, "Erased code and the machine": which items are kept, where labels lie among them, and the code words of the kept items. Any numbers have items (`items_in`), so any numbers are erased; Theorems says what the words are where the items are within 01's ranges.
+-- 01, "Erased code and the machine": which items are kept, where labels lie among them, and the code words of the kept
+-- items. Any numbers have items (`items_in`), so any numbers are erased; Theorems says what the words are where the
+-- items are within 01's ranges.
 use Rattle.std.specs.Prelude.{ℕ, ◌+◌, ◌-◌, ◌%◌, ◌^◌, Bool, true, false, List, [], ◌∷◌, ◌++◌, map, length, get_or, set, drop, replicate, ltb}
 use Rattle.choice.specs.Pick.{pick}
 use Rattle.machine.specs.Word.{Kind, halt, jmp, bnz, load, store, compute, compute_immediate, bad, joined}
@@ -51,11 +53,11 @@ label_of (Cjmp l) = LABELS
 label_of (Label l) = l
 
 -- a label's address is the count of kept items before it, which the item that places it enters in the table; past the table's end nothing changes
-unfoldable pub entered : Item → ℕ → List ℕ → List ℕ
-entered i count addresses = set addresses (label_of i) count
+unfoldable pub address_entered : Item → ℕ → List ℕ → List ℕ
+address_entered i count addresses = set addresses (label_of i) count
 
 abbrev pub addresses_from : List Item → ℕ → List ℕ → List ℕ
-addresses_from items count addresses = pass_from entered items count addresses
+addresses_from items count addresses = pass_from address_entered items count addresses
 
 -- an entry for each label that may occur
 unfoldable pub no_addresses : List ℕ
@@ -71,7 +73,8 @@ address_at addresses l = get_or addresses l 0
 abbrev pub immediate_of : ℕ → ℕ
 immediate_of i = (i + 32768) % 2 ^ 16
 
--- what an item's word asks of the machine: cjmp becomes jmp, a label its address, and an operation with an immediate goes by the operation's own number. cpush and label have no word
+-- what an item's word asks of the machine: cjmp becomes jmp, a label its address, and an operation with an immediate
+-- goes by the operation's own number. cpush and label have no word
 abbrev pub kind_for : List ℕ → Item → Kind
 kind_for addresses Halt = halt
 kind_for addresses (Jmp l) = jmp (address_at addresses l)

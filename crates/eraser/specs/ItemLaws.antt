@@ -13,11 +13,11 @@ use Rattle.eraser.specs.Erase.{kept_of, kept_in, needed_of, address_at, kind_for
 use Rattle.eraser.specs.PassLaws.{code_length}
 
 -- within the ranges nothing is cut: an item's word is the word of its kind, which has room for it
-pub record Whole (addresses : List ℕ) (i : Item) : Type 0 where
+pub record WholeWord (addresses : List ℕ) (i : Item) : Type 0 where
   pub word : word_for addresses i ≡ word_of (kind_for addresses i)
   pub room : InRange (kind_for addresses i)
 
-pub item_whole : (addresses : List ℕ) (labels : ℕ) (i : Item) → ItemRange labels i → ((l : ℕ) → address_at addresses l < 2 ^ 16) → Whole addresses i
+pub item_whole : (addresses : List ℕ) (labels : ℕ) (i : Item) → ItemRange labels i → ((l : ℕ) → address_at addresses l < 2 ^ 16) → WholeWord addresses i
 unfolding word_of InRange
 item_whole addresses labels Halt h a = record { word = refl; room = tt }
 item_whole addresses labels (Jmp l) h a = record { word = omega (arith, a l); room = a l }

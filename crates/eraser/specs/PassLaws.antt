@@ -1,4 +1,6 @@
--- Laws for the eraser's code: one for each way through it. Two passes go over the items; each has its whole result as what is left of it from each item on. `by_kept`, `passes` and `calls` hold the laws for a search; the laws of a turn take the invariant first, from which a search has the rest.
+-- Laws for the eraser's code: one for each way through it. Two passes go over the items; each has its whole result as
+-- what is left of it from each item on. `by_kept`, `passes` and `calls` hold the laws for a search; the laws of a turn
+-- take the invariant first, from which a search has the rest.
 use Prim.Native.Nat.{ℕ, suc, ◌+◌, ◌-◌, ◌*◌, ◌≤◌, ◌<◌}
 use Rattle.std.proofs.Common.{zero-add, add-one, ◌∙◌}
 use native.Mathlib.Omega.{arith}
@@ -15,26 +17,26 @@ use Rattle.listing.specs.declared.items.Item.{Item}
 use Rattle.listing.specs.Limits.{ITEMS}
 use Rattle.listing.specs.Parts.{parts_from, count_at, item_at, behind_item, items_place, items_in}
 use Rattle.listing.specs.PlaceLaws.{ITEM_NUMBERS, LISTING_NUMBERS}
-use Rattle.eraser.specs.Erase.{kept_of, kept_in, needed_of, count_behind, pass_from, label_of, entered, addresses_from, no_addresses, addresses_of, word_for, code_of, erased_by, erase_of, erase_items}
+use Rattle.eraser.specs.Erase.{kept_of, kept_in, needed_of, count_behind, pass_from, label_of, address_entered, addresses_from, no_addresses, addresses_of, word_for, code_of, erased_by, erase_of, erase_items}
 
 -- the word of an item that is known by its parts
 pub as_item : (addresses : List ℕ) (i x : Item) (w : ℕ) → i ≡ x → w ≡ word_for addresses x → w ≡ word_for addresses i
 as_item addresses i x w e p = p ∙ ap (word_for addresses) (sym e)
 
 -- a kept item's word goes to the place of its count; the words of all items
-unfoldable pub put_of : List ℕ → Item → ℕ → List ℕ → List ℕ
-put_of addresses i count code = pick (kept_of i) (set code count (word_for addresses i)) code
+unfoldable pub put_word : List ℕ → Item → ℕ → List ℕ → List ℕ
+put_word addresses i count code = pick (kept_of i) (set code count (word_for addresses i)) code
 
 abbrev pub written_from : List ℕ → List Item → ℕ → List ℕ → List ℕ
-written_from addresses items count code = pass_from (put_of addresses) items count code
+written_from addresses items count code = pass_from (put_word addresses) items count code
 
 -- the label l that an item places is entered, where the table has an entry for it
 module _ (i : Item) (l count : ℕ) (addresses : List ℕ) (e : l ≡ label_of i) where
-  pub enters : set addresses l count ≡ entered i count addresses
-  unfolding entered
+  pub enters : set addresses l count ≡ address_entered i count addresses
+  unfolding address_entered
   enters = ap (λ (k : ℕ). set addresses k count) e
 
-  pub enters_not : length addresses ≤ l → addresses ≡ entered i count addresses
+  pub enters_not : length addresses ≤ l → addresses ≡ address_entered i count addresses
   enters_not h = set_past addresses l count h ∙ enters
 
 -- an item that is kept, and one that is not: k is the answer of `kept`
@@ -47,8 +49,8 @@ module _ (i : Item) (k : Bool) (e : k ≡ kept_of i) (count : ℕ) where
     unfolding count_behind
     counts = is_kept (count + 1) count
 
-    pub puts : (addresses code : List ℕ) (w : ℕ) → w ≡ word_for addresses i → set code count w ≡ put_of addresses i count code
-    unfolding put_of
+    pub puts : (addresses code : List ℕ) (w : ℕ) → w ≡ word_for addresses i → set code count w ≡ put_word addresses i count code
+    unfolding put_word
     puts addresses code w p = ap (set code count) p ∙ is_kept _ code
 
     -- where there is room behind the item, there is room for its word
@@ -63,8 +65,8 @@ module _ (i : Item) (k : Bool) (e : k ≡ kept_of i) (count : ℕ) where
     unfolding count_behind
     counts_not = is_dropped (count + 1) count
 
-    pub puts_not : (addresses code : List ℕ) → code ≡ put_of addresses i count code
-    unfolding put_of
+    pub puts_not : (addresses code : List ℕ) → code ≡ put_word addresses i count code
+    unfolding put_word
     puts_not addresses code = is_dropped _ code
 
 pub ruleset by_kept = (counts, puts, has_room, counts_not, puts_not)
@@ -74,8 +76,8 @@ abbrev pub items_left : List ℕ → ℕ → ℕ → List Item
 items_left ns at left = parts_from (item_at ns) (behind_item ns) at left
 
 -- a pass over the items of a listing: its words and its count are what the items that are left make of them, and every place and count is small
-abbrev pub Passing : (Item → ℕ → List ℕ → List ℕ) → List ℕ → List ℕ → ℕ → ℕ → ℕ → List ℕ → Type 0
-Passing change ns words₀ at left count words =
+abbrev pub PassGoesOn : (Item → ℕ → List ℕ → List ℕ) → List ℕ → List ℕ → ℕ → ℕ → ℕ → List ℕ → Type 0
+PassGoesOn change ns words₀ at left count words =
     (pass_from change (items_in ns) 0 words₀ ≡ pass_from change (items_left ns at left) count words)
     × (needed_of (items_in ns) ≡ count + needed_of (items_left ns at left))
     × (length words ≡ length words₀)
@@ -99,10 +101,10 @@ sets_way true word i items code count = rw add-one
 sets_way false word i items code count = refl
 
 written_is_code : (addresses : List ℕ) (items : List Item) (count : ℕ) (code : List ℕ) → written_from addresses items count code ≡ sets code count (code_of addresses items)
-unfolding pass_from put_of code_of kept_in count_behind
+unfolding pass_from put_word code_of kept_in count_behind
 written_is_code addresses [] count code = refl
 written_is_code addresses (i ∷ items) count code =
-    written_is_code addresses items (count_behind i count) (put_of addresses i count code) ∙ sets_way (kept_of i) (word_for addresses) i (kept_in items) code count
+    written_is_code addresses items (count_behind i count) (put_word addresses i count code) ∙ sets_way (kept_of i) (word_for addresses) i (kept_in items) code count
 
 -- a turn of a pass in the code's terms, for any function of the items that are left; for the count, and for the words
 module _ (ns : List ℕ) (at left : ℕ) where

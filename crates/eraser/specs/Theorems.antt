@@ -9,13 +9,13 @@ use Rattle.listing.specs.Limits.{LABELS, ITEMS}
 use Rattle.listing.specs.Listing.{ItemRange}
 use Rattle.listing.specs.Parts.{items_in}
 use Rattle.eraser.specs.Erase.{kept_of, needed_of, addresses_of, address_at, kind_for, word_for, code_of}
-use Rattle.eraser.specs.ItemLaws.{Whole, item_whole, needed_append, needed_first, word_stands}
+use Rattle.eraser.specs.ItemLaws.{WholeWord, item_whole, needed_append, needed_first, word_stands}
 use Rattle.eraser.specs.AddressLaws.{Unplaced, entry_is_count, few_needed, low_address}
 
 -- an item's word is split again into the item's own parts, none of them cut
 pub word_splits : (addresses : List ℕ) (labels : ℕ) (i : Item) → ItemRange labels i → ((l : ℕ) → address_at addresses l < 2 ^ 16) → kind_of (word_for addresses i) ≡ kind_for addresses i
 word_splits addresses labels i h a =
-    let w : Whole addresses i = item_whole addresses labels i h a in
+    let w : WholeWord addresses i = item_whole addresses labels i h a in
     ap kind_of w.word ∙ kind_back (kind_for addresses i) w.room
 
 -- the word of a kept item stands where the kept items before it end

@@ -1,4 +1,5 @@
--- Any two results that meet the promise of `erase` are equal: the words needed, and every word of the buffer. (`needed`'s promise is an equation of its whole result.)
+-- Any two results that meet the promise of `erase` are equal: the words needed, and every word of the buffer.
+-- (`needed`'s promise is an equation of its whole result.)
 use Rattle.std.specs.Prelude.{ℕ, ◌≡◌, List}
 use Rattle.std.proofs.Common.{sym, ap, ◌∙◌}
 use Rattle.eraser.specs.Erase.{Erased, erased_by, erase_of}

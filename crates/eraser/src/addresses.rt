@@ -1,10 +1,10 @@
 // The addresses of labels: how many kept items stand before each.
 ghost use Rattle.std.specs.Prelude.{◌≡◌, ◌+◌, ◌≤◌, ◌<◌, ◌^◌};
 ghost use Rattle.listing.specs.Parts.{items_in};
-ghost use Rattle.eraser.specs.Erase.{kept_of, needed_of, count_behind, label_of, entered, addresses_from, no_addresses};
+ghost use Rattle.eraser.specs.Erase.{kept_of, needed_of, count_behind, label_of, address_entered, addresses_from, no_addresses};
 
 use listing::limits::{ITEMS, LABELS};
-use listing::{Item, behind_item, count_at, item_at, items_place};
+use listing::{Item, count_at, item_at, item_size, items_place};
 
 // Whether an item is kept.
 pub fn kept(item: Item) -> bool
@@ -53,7 +53,7 @@ fn label_of(item: Item) -> u32
 
 // Enters the address of the label that an item places, if the table has an entry for it.
 fn enter(item: Item, count: u32, addresses: &mut [u32])
-    ensures { addresses.new ≡ entered item count addresses.old }
+    ensures { addresses.new ≡ address_entered item count addresses.old }
 {
     let i = label_of(item) as usize;
     if i < addresses.len() {
@@ -81,7 +81,7 @@ pub fn enter_all(numbers: &[u32], addresses: &mut [u32]) -> u32
         let item = item_at(numbers, at);
         enter(item, count, addresses);
         count = count_behind(item, count);
-        at = behind_item(numbers, at);
+        at += item_size(numbers, at);
         left -= 1;
     }
     count

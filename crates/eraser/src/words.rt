@@ -2,11 +2,11 @@
 ghost use Rattle.std.specs.Prelude.{◌≡◌, ◌≤◌, length};
 ghost use Rattle.listing.specs.Parts.{items_in};
 ghost use Rattle.eraser.specs.Erase.{needed_of, count_behind, address_at, immediate_of, cut_word, word_for};
-ghost use Rattle.eraser.specs.PassLaws.{put_of, written_from};
+ghost use Rattle.eraser.specs.PassLaws.{put_word, written_from};
 
 use crate::addresses::{count_behind, kept};
 use listing::limits::ITEMS;
-use listing::{Item, behind_item, count_at, item_at, items_place, number_at};
+use listing::{Item, count_at, item_at, item_size, items_place, number_at};
 
 // A word of an opcode, rd, rs, rt and a low half, each cut to its bits.
 fn cut_word(op: u32, rd: u32, rs: u32, rt: u32, low: u32) -> u32
@@ -54,7 +54,7 @@ fn word(item: Item, addresses: &[u32]) -> u32
 // Writes the word of an item, if it is kept.
 fn put(item: Item, addresses: &[u32], code: &mut [u32], count: u32)
     requires { count_behind item count ≤ length code.old }
-    ensures { code.new ≡ put_of addresses.now item count code.old }
+    ensures { code.new ≡ put_word addresses.now item count code.old }
 {
     if kept(item) {
         let w = word(item, addresses);
@@ -75,7 +75,7 @@ pub fn put_all(numbers: &[u32], addresses: &[u32], code: &mut [u32])
         let item = item_at(numbers, at);
         put(item, addresses, code, count);
         count = count_behind(item, count);
-        at = behind_item(numbers, at);
+        at += item_size(numbers, at);
         left -= 1;
     }
 }

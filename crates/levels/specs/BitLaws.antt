@@ -1,4 +1,5 @@
--- Laws of and and or that the kit does not have, each by induction on the halves of its first number: what holds of the lowest bits and of the rest holds of the whole.
+-- Laws of and and or that the kit does not have, each by induction on the halves of its first number: what holds of the
+-- lowest bits and of the rest holds of the whole.
 use Rattle.std.specs.Prelude.{ℕ, zero, suc, ◌+◌, ◌*◌, ◌/◌, ◌%◌, ◌<◌, ◌≤◌, min, max, ◌≡◌, refl}
 use Rattle.std.proofs.Common.{arith, sym, ap, ◌∙◌}
 use Rattle.std.proofs.Math.Arith.{bin_ind}

@@ -1,4 +1,5 @@
--- What an order of levels is: numbers, a test by which one is at or below another, a join, and their laws. What is proved of levels is proved over this, and sets of compartments are one instance.
+-- What an order of levels is: numbers, a test by which one is at or below another, a join, and their laws. What is
+-- proved of levels is proved over this, and sets of compartments are one instance.
 use Rattle.std.specs.Prelude.{ℕ, ◌≡◌, Bool, true}
 
 pub record Order : Type 1 where

@@ -1,4 +1,5 @@
--- 01, "Levels, words, types": a level is a set of eight compartments, written 0 to 255; one is at or below another when each of its bits is set there too; join is union.
+-- 01, "Levels, words, types": a level is a set of eight compartments, written 0 to 255; one is at or below another when
+-- each of its bits is set there too; join is union.
 use Rattle.std.specs.Prelude.{ℕ, Bool, eqb}
 use Rattle.std.specs.Int.Bits.{bit_and, bit_or}
 

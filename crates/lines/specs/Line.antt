@@ -3,17 +3,17 @@ use Rattle.std.specs.Prelude.{ℕ, ◌≤◌, ◌≡◌, List, [], ◌++◌, len
 use Rattle.checker.specs.declared.packets.Checked.{Checked}
 use Rattle.checker.specs.declared.packets.Checked.TheVariants.{Accepted, Refused, NoRoom}
 use Rattle.checker.specs.Check.{check_of}
-use Rattle.lines.specs.Text.{bytes_of}
+use Rattle.lines.specs.Text.{text_bytes}
 use Rattle.lines.specs.Decimal.{decimal_of}
 
 -- the line of a refusal
-unfoldable pub refusal_of : ℕ → ℕ → List ℕ
-refusal_of n p = bytes_of "REFUSED " ++ decimal_of n ++ bytes_of " AT " ++ decimal_of p ++ bytes_of "\n"
+unfoldable pub refused_line : ℕ → ℕ → List ℕ
+refused_line n p = text_bytes "REFUSED " ++ decimal_of n ++ text_bytes " AT " ++ decimal_of p ++ text_bytes "\n"
 
 -- the line of a verdict. A packet's verdict is never NoRoom (`packet_has_line` in Theorems), which has no line
 unfoldable pub line_of : Checked → List ℕ
-line_of (Accepted n) = bytes_of "ACCEPTED\n"
-line_of (Refused n p) = refusal_of n p
+line_of (Accepted n) = text_bytes "ACCEPTED\n"
+line_of (Refused n p) = refused_line n p
 line_of NoRoom = []
 
 -- what a call that writes to a buffer leaves: the place behind what it wrote, and the buffer's bytes

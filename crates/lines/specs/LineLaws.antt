@@ -13,12 +13,12 @@ use Rattle.checker.specs.declared.packets.Checked.{Checked}
 use Rattle.checker.specs.declared.packets.Checked.TheVariants.{Accepted, Refused, NoRoom}
 use Rattle.checker.specs.Check.{verdict_in, checked_by, checking_of, check_in, check_of}
 use Rattle.checker.specs.CheckLaws.{check_answer}
-use Rattle.lines.specs.Text.{bytes_of}
+use Rattle.lines.specs.Text.{text_bytes}
 use Rattle.lines.specs.Decimal.{decimal_of}
 use Rattle.lines.specs.DecimalLaws.{digits_below}
-use Rattle.lines.specs.Line.{refusal_of, line_of, Written, written, in_front, line_in, Front, LONGEST}
+use Rattle.lines.specs.Line.{refused_line, line_of, Written, written, in_front, line_in, Front, LONGEST}
 use Rattle.lines.specs.Put.{put_of}
-use Rattle.lines.specs.PutLaws.{behind}
+use Rattle.lines.specs.PutLaws.{put_behind}
 
 -- what a packet is: 6 where it is too long, else what the checker answers in a room for any packet
 module _ (packet : List ℕ) (r : Checked) where
@@ -32,32 +32,32 @@ module _ (packet : List ℕ) (r : Checked) where
 pub ruleset verdicts = (refl, verdict_long, verdict_in_room)
 
 -- the length of a refusal's line
-refusal_length : (n p : ℕ) → n < 2 ^ 8 → p < 2 ^ 64 → length (refusal_of n p) ≤ LONGEST
-unfolding refusal_of
+refusal_length : (n p : ℕ) → n < 2 ^ 8 → p < 2 ^ 64 → length (refused_line n p) ≤ LONGEST
+unfolding refused_line
 refusal_length n p h k = simp length-append (omega (arith, digits_below 2 n (omega arith), digits_below 19 p (omega arith)))
 
 -- a refusal's line, part by part
-module _ (out out₁ out₂ out₃ : List ℕ) (a₁ a₂ a₃ n p : ℕ) (e₁ : written a₁ out₁ ≡ put_of out 0 (bytes_of "REFUSED " ++ decimal_of n)) (e₂ : written a₂ out₂ ≡ put_of out₁ a₁ (bytes_of " AT " ++ decimal_of p)) (e₃ : written a₃ out₃ ≡ put_of out₂ a₂ (bytes_of "\n")) where
-  pub refusal_put : written a₃ out₃ ≡ put_of out 0 (refusal_of n p)
-  unfolding refusal_of
+module _ (out out₁ out₂ out₃ : List ℕ) (a₁ a₂ a₃ n p : ℕ) (e₁ : written a₁ out₁ ≡ put_of out 0 (text_bytes "REFUSED " ++ decimal_of n)) (e₂ : written a₂ out₂ ≡ put_of out₁ a₁ (text_bytes " AT " ++ decimal_of p)) (e₃ : written a₃ out₃ ≡ put_of out₂ a₂ (text_bytes "\n")) where
+  pub refusal_put : written a₃ out₃ ≡ put_of out 0 (refused_line n p)
+  unfolding refused_line
   refusal_put =
-      behind out out₂ out₃ 0 a₂ a₃ (bytes_of "REFUSED " ++ decimal_of n ++ bytes_of " AT " ++ decimal_of p) (bytes_of "\n")
-      (behind out out₁ out₂ 0 a₁ a₂ (bytes_of "REFUSED " ++ decimal_of n) (bytes_of " AT " ++ decimal_of p) e₁ e₂
-      ∙ ap (put_of out 0) (sym (append_assoc (bytes_of "REFUSED " ++ decimal_of n) (bytes_of " AT ") (decimal_of p))))
+      put_behind out out₂ out₃ 0 a₂ a₃ (text_bytes "REFUSED " ++ decimal_of n ++ text_bytes " AT " ++ decimal_of p) (text_bytes "\n")
+      (put_behind out out₁ out₂ 0 a₁ a₂ (text_bytes "REFUSED " ++ decimal_of n) (text_bytes " AT " ++ decimal_of p) e₁ e₂
+      ∙ ap (put_of out 0) (sym (append_assoc (text_bytes "REFUSED " ++ decimal_of n) (text_bytes " AT ") (decimal_of p))))
       e₃
 
   pub refusal_near : n < 2 ^ 8 → p < 2 ^ 64 → a₃ ≤ LONGEST
   unfolding put_of
   refusal_near h k =
-      let same : a₃ ≡ 0 + length (refusal_of n p) = ap (λ (w : Written). w.end) refusal_put in omega (arith, same, refusal_length n p h k)
+      let same : a₃ ≡ 0 + length (refused_line n p) = ap (λ (w : Written). w.end) refusal_put in omega (arith, same, refusal_length n p h k)
 
 -- by the verdict
 module _ (out out' : List ℕ) (r : ℕ) (v : Checked) where
-  pub line_accepted : (n : ℕ) → v ≡ Accepted n → written r out' ≡ put_of out 0 (bytes_of "ACCEPTED\n") → written r out' ≡ put_of out 0 (line_of v)
+  pub line_accepted : (n : ℕ) → v ≡ Accepted n → written r out' ≡ put_of out 0 (text_bytes "ACCEPTED\n") → written r out' ≡ put_of out 0 (line_of v)
   unfolding line_of
   line_accepted n p e = e ∙ ap (λ (x : Checked). put_of out 0 (line_of x)) (sym p)
 
-  pub line_refused : (n place : ℕ) → v ≡ Refused n place → written r out' ≡ put_of out 0 (refusal_of n place) → written r out' ≡ put_of out 0 (line_of v)
+  pub line_refused : (n place : ℕ) → v ≡ Refused n place → written r out' ≡ put_of out 0 (refused_line n place) → written r out' ≡ put_of out 0 (line_of v)
   unfolding line_of
   line_refused n place p e = e ∙ ap (λ (x : Checked). put_of out 0 (line_of x)) (sym p)
 

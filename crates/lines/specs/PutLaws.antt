@@ -26,8 +26,8 @@ put_both : (out : List ℕ) (at : ℕ) (x y : List ℕ) (w : Written) → w ≡ 
 put_both out at [] y w p = ap (λ (v : Written). put_of v.out v.end y) (p ∙ sym (put_none out at))
 put_both out at (b ∷ x) y w p = put_both (set out at b) (at + 1) x y w (p ∙ sym (put_byte out at b x)) ∙ put_byte out at b (x ++ y)
 
-pub behind : (out out₁ out₂ : List ℕ) (at a b : ℕ) (x y : List ℕ) → written a out₁ ≡ put_of out at x → written b out₂ ≡ put_of out₁ a y → written b out₂ ≡ put_of out at (x ++ y)
-behind out out₁ out₂ at a b x y e f = f ∙ put_both out at x y (written a out₁) e
+pub put_behind : (out out₁ out₂ : List ℕ) (at a b : ℕ) (x y : List ℕ) → written a out₁ ≡ put_of out at x → written b out₂ ≡ put_of out₁ a y → written b out₂ ≡ put_of out at (x ++ y)
+put_behind out out₁ out₂ at a b x y e f = f ∙ put_both out at x y (written a out₁) e
 
 -- a text, byte by byte: the whole is what is still to be put
 module _ (whole : Written) (out text : List ℕ) (end i : ℕ) (e : whole ≡ put_of out end (drop i text)) where
@@ -61,4 +61,4 @@ module _ (out : List ℕ) (at n : ℕ) where
     number_near h =
         let same : end ≡ at + length (decimal_of (n / 10)) = ap (λ (w : Written). w.end) e in omega (arith, same, digits_below 18 (n / 10) (omega arith))
 
-pub ruleset puts = (refl, behind, text_more, text_ends, number_ends, number_more, number_near)
+pub ruleset puts = (refl, put_behind, text_more, text_ends, number_ends, number_more, number_near)

@@ -4,6 +4,6 @@ use Prim.Native.Char.{code}
 use Prim.Native.String.{String, [], ◌∷◌}
 use mathlib.Core.List as list
 
-abbrev pub bytes_of : String → list.List ℕ
-bytes_of [] = list.[]
-bytes_of (c ∷ text) = list.◌∷◌ (code c) (bytes_of text)
+abbrev pub text_bytes : String → list.List ℕ
+text_bytes [] = list.[]
+text_bytes (c ∷ text) = list.◌∷◌ (code c) (text_bytes text)

@@ -1,24 +1,19 @@
 -- What the definitions of the line mean.
-use Rattle.std.specs.Prelude.{ℕ, zero, suc, ◌+◌, ◌-◌, ◌*◌, ◌/◌, ◌%◌, ◌<◌, ◌≤◌, ◌≡◌, refl, List, [], ◌∷◌, ◌++◌, get_or, length, ltb, eqb}
+use Rattle.std.specs.Prelude.{ℕ, zero, suc, ◌+◌, ◌-◌, ◌*◌, ◌/◌, ◌%◌, ◌<◌, ◌≤◌, ◌≡◌, refl, List, [], ◌∷◌, ◌++◌, get_or, eqb}
 use Rattle.std.proofs.Common.{arith, ◌∙◌}
-use Rattle.choice.specs.Pick.{pick, both, if_less}
-use Rattle.listing.specs.declared.grammar.Wanted.TheVariants.{Edition}
-use Rattle.listing.specs.declared.grammar.Due.{Due}
-use Rattle.listing.specs.declared.grammar.Due.TheVariants.{Next, End, Refused}
-use Rattle.listing.specs.declared.reading.Got.{Got}
-use Rattle.listing.specs.declared.reading.Got.TheVariants.{Took, Bad}
+use Rattle.choice.specs.Pick.{pick, both_ways, if_less}
 use Rattle.listing.specs.declared.reading.Taken.{Taken}
 use Rattle.listing.specs.declared.reading.Taken.TheVariants.{Listing, Fault, NoRoom}
-use Rattle.listing.specs.Limits.{BYTES, LEFT_OVER, TOO_LONG}
-use Rattle.listing.specs.Packet.{got_of, end_of, taken_then, taken_from, taken_of}
+use Rattle.listing.specs.Packet.{taken_of}
+use Rattle.listing.specs.NamedLaws.{TakenNamed, taken_named}
 use Rattle.checker.specs.declared.walk.Verdict.{Verdict}
 use Rattle.checker.specs.declared.packets.Checked.{Checked}
 use Rattle.checker.specs.declared.packets.Checked.TheVariants as checked
 use Rattle.checker.specs.Check.{verdict_in, judged_of, checked_by, check_of}
-use Rattle.lines.specs.Text.{bytes_of}
+use Rattle.lines.specs.Text.{text_bytes}
 use Rattle.lines.specs.Decimal.{digit_of, digits_from, decimal_of}
 use Rattle.lines.specs.DecimalLaws.{decimal_one, decimal_more}
-use Rattle.lines.specs.Line.{refusal_of, line_of}
+use Rattle.lines.specs.Line.{refused_line, line_of}
 
 -- the number that a row of digits stands for, behind others that stand for `high`
 unfoldable pub value_from : ℕ → List ℕ → ℕ
@@ -71,47 +66,25 @@ decimal_is_shortest n =
 
 -- what a line may be
 pub data Printed : List ℕ → Type 0 where
-  accepted : Printed (bytes_of "ACCEPTED\n")
-  refused : (n p : ℕ) → Printed (refusal_of n p)
+  accepted : Printed (text_bytes "ACCEPTED\n")
+  refused : (n p : ℕ) → Printed (refused_line n p)
 
--- a packet read with room enough is a listing or has a fault
-unfoldable Told : Taken → Type 0
-Told (Listing n) = Unit {0}
-Told (Fault k place) = Unit {0}
-Told NoRoom = ⊥
-
-told_then : (g : Got) (count : ℕ) (on : Due → ℕ → ℕ → Taken) → ((d : Due) (i j : ℕ) → Told (on d i j)) → Told (taken_then g count on)
-unfolding taken_then Told
-told_then (Took v behind d) count on h = h d behind (count + 1)
-told_then (Bad k place) count on h = tt
-
-told_from : (fuel : ℕ) (bytes : List ℕ) (d : Due) (at count : ℕ) → Told (taken_from fuel bytes d at count)
-unfolding taken_from end_of Told
-told_from zero bytes d at count = tt
-told_from (suc fuel) bytes (Next w) at count = told_then (got_of bytes at w) count (taken_from fuel bytes) (told_from fuel bytes)
-told_from (suc fuel) bytes End at count = both Told (ltb at (length bytes)) (Fault LEFT_OVER at) (Listing count) tt tt
-told_from (suc fuel) bytes (Refused k) at count = tt
-
-told : (packet : List ℕ) → Told (taken_of packet)
-unfolding taken_of Told
-told packet = both Told (ltb BYTES (length packet)) (Fault TOO_LONG 0) _ tt (told_from (length packet + 1) packet (Next Edition) 0 0)
-
-printed_by : (t : Taken) (v : Verdict) → Told t → Printed (line_of (checked_by t v))
-unfolding checked_by judged_of line_of Told
-printed_by (Listing n) v h = both (λ (c : Checked). Printed (line_of c)) (eqb v.number 0) (checked.Accepted n) (checked.Refused v.number v.place) accepted (refused v.number v.place)
+printed_by : (t : Taken) (v : Verdict) → TakenNamed t → Printed (line_of (checked_by t v))
+unfolding checked_by judged_of line_of TakenNamed
+printed_by (Listing n) v h = both_ways (λ (c : Checked). Printed (line_of c)) (eqb v.number 0) (checked.Accepted n) (checked.Refused v.number v.place) accepted (refused v.number v.place)
 printed_by (Fault k place) v h = refused k place
 printed_by NoRoom v h = absurd h
 
 -- every packet has a line
 pub packet_has_line : (packet : List ℕ) → Printed (line_of (check_of packet))
 unfolding check_of
-packet_has_line packet = printed_by (taken_of packet) (verdict_in packet) (told packet)
+packet_has_line packet = printed_by (taken_of packet) (verdict_in packet) (taken_named packet)
 
 -- some lines as they are printed
-pub printed_lines : (line_of (checked.Accepted 70) ≡ bytes_of "ACCEPTED\n")
-    × (line_of (checked.Refused 15 6) ≡ bytes_of "REFUSED 15 AT 6\n")
-    × (line_of (checked.Refused 5 70) ≡ bytes_of "REFUSED 5 AT 70\n")
-    × (line_of (checked.Refused 6 0) ≡ bytes_of "REFUSED 6 AT 0\n")
-    × (line_of (checked.Refused 1 65536) ≡ bytes_of "REFUSED 1 AT 65536\n")
-unfolding line_of refusal_of decimal_of digits_from pick
+pub printed_lines : (line_of (checked.Accepted 70) ≡ text_bytes "ACCEPTED\n")
+    × (line_of (checked.Refused 15 6) ≡ text_bytes "REFUSED 15 AT 6\n")
+    × (line_of (checked.Refused 5 70) ≡ text_bytes "REFUSED 5 AT 70\n")
+    × (line_of (checked.Refused 6 0) ≡ text_bytes "REFUSED 6 AT 0\n")
+    × (line_of (checked.Refused 1 65536) ≡ text_bytes "REFUSED 1 AT 65536\n")
+unfolding line_of refused_line decimal_of digits_from pick
 printed_lines = (refl, refl, refl, refl, refl)

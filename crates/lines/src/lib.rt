@@ -3,4 +3,4 @@
 mod texts;
 mod verdicts;
 
-pub use verdicts::{LONGEST, line, numbers_room};
+pub use verdicts::{LONGEST, line};

@@ -1,23 +1,16 @@
 // The line of a verdict, and of a packet.
-ghost use Rattle.std.specs.Prelude.{◌≡◌, ◌≤◌, length};
-ghost use Rattle.listing.specs.Limits.{BYTES};
+ghost use Rattle.std.specs.Prelude.{◌≡◌, ◌≤◌};
 ghost use Rattle.checker.specs.Check.{check_of};
-ghost use Rattle.lines.specs.Line.{refusal_of, line_of, written, line_in, Front, LONGEST};
+ghost use Rattle.lines.specs.Line.{refused_line, line_of, written, line_in, Front, LONGEST};
 ghost use Rattle.lines.specs.Put.{put_of};
 
 use crate::texts::{put_labelled, put_text};
 use checker::Checked;
 use listing::limits::{BYTES, TOO_LONG};
+use listing::longest_room;
 
 // The bytes of the longest line, with a number of three digits and a place of twenty.
 pub const LONGEST: usize = 36;
-
-// Room for the numbers of any packet.
-pub fn numbers_room() -> [u32; BYTES]
-    ensures { length result ≡ BYTES }
-{
-    [0; BYTES]
-}
 
 // What a packet is.
 fn verdict(packet: &[u8]) -> Checked
@@ -26,12 +19,12 @@ fn verdict(packet: &[u8]) -> Checked
     if BYTES < packet.len() {
         return Checked::Refused(TOO_LONG, 0);
     }
-    let mut room = numbers_room();
+    let mut room = longest_room();
     checker::check(packet, &mut room)
 }
 
 fn put_refusal(out: &mut [u8], number: u8, place: usize) -> usize
-    ensures out_after { written result out.new ≡ put_of out.old 0 (refusal_of number place) }
+    ensures out_after { written result out.new ≡ put_of out.old 0 (refused_line number place) }
     ensures bounded { result ≤ LONGEST }
 {
     let number_end = put_labelled(out, 0, b"REFUSED ", number as usize);

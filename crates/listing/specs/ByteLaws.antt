@@ -1,4 +1,5 @@
--- A packet is taken exactly where it is the bytes of a row of numbers that the grammar takes to its end, and its numbers are then that row. Each way is one induction, over the numbers or over the turns of the reader.
+-- A packet is taken exactly where it is the bytes of a row of numbers that the grammar takes to its end, and its
+-- numbers are then that row. Each way is one induction, over the numbers or over the turns of the reader.
 use Prim.Native.Nat.{ℕ, zero, suc, ◌+◌, ◌^◌, ◌<◌, ◌≤◌, zero-le}
 use Rattle.std.proofs.Common.{add-zero, zero-add, subst, ◌∙◌, drop_of_length-le, length-append, length-drop, drop-drop, ltb-false}
 use native.Mathlib.Omega.{arith}
@@ -28,7 +29,7 @@ use Rattle.listing.specs.Listing.{Each}
 use Rattle.listing.specs.Fold.{fold_of}
 use Rattle.listing.specs.Sorts.{refused_never_ends}
 use Rattle.listing.specs.Packet.{due_then, found_then, got_of, end_of, numbers_then, numbers_from, taken_then, taken_from, numbers_in, taken_of}
-use Rattle.listing.specs.Bytes.{bytes_of}
+use Rattle.listing.specs.Bytes.{encode_all}
 
 pub never : {A : Type 0} → ◌≡◌ {A = ℕ} 0 1 → A
 never z = absurd (omega arith)
@@ -87,10 +88,10 @@ taken_ends bytes =
     holds_of_taken bytes (λ due at ns. fold_of due ns ≡ End) (λ at h. refl) (λ at w v behind d ns got ends. ap (λ (x : Due). fold_of x ns) got.due ∙ ends)
 
 -- and the packet is the bytes of its numbers
-pub taken_bytes : (bytes : List ℕ) → ((i : ℕ) → get_or bytes i 0 < 256) → (n : ℕ) → taken_of bytes ≡ Listing n → bytes ≡ bytes_of (numbers_in bytes)
-unfolding bytes_of
+pub taken_bytes : (bytes : List ℕ) → ((i : ℕ) → get_or bytes i 0 < 256) → (n : ℕ) → taken_of bytes ≡ Listing n → bytes ≡ encode_all (numbers_in bytes)
+unfolding encode_all
 taken_bytes bytes below =
-    holds_of_taken bytes (λ due at ns. drop at bytes ≡ bytes_of ns) (λ at. drop_of_length-le bytes)
+    holds_of_taken bytes (λ due at ns. drop at bytes ≡ encode_all ns) (λ at. drop_of_length-le bytes)
     (λ at w v behind d ns got stand. (encoded_read bytes at v behind below got.found).stands ∙ ap (λ (l : List ℕ). encode_of v ++ l) stand)
 
 -- the other way: numbers that the grammar takes to its end, whose bytes stand there to the end
@@ -128,8 +129,8 @@ module _ (bytes : List ℕ) where
   got_standing at w n behind End ns e g f = ap (λ (x : Found). found_then x (length bytes) at w) e ∙ ap (λ (x : Due). due_then x n at behind) g
   got_standing at w n behind (Refused k) ns e g f = absurd (refused_never_ends k ns f)
 
-  reads : (ns : List ℕ) (fuel : ℕ) (due : Due) (at count : ℕ) → Each (λ (n : ℕ). n < 2 ^ 32) ns → drop at bytes ≡ bytes_of ns → fold_of due ns ≡ End → length ns < fuel → Reads bytes fuel due at count ns
-  unfolding fold_of bytes_of
+  reads : (ns : List ℕ) (fuel : ℕ) (due : Due) (at count : ℕ) → Each (λ (n : ℕ). n < 2 ^ 32) ns → drop at bytes ≡ encode_all ns → fold_of due ns ≡ End → length ns < fuel → Reads bytes fuel due at count ns
+  unfolding fold_of encode_all
   reads [] zero due at count b e f h = absurd (omega arith)
   reads [] (suc fuel) (Next w) at count b e f h = never cc
   reads [] (suc fuel) End at count b e f h = reads_end fuel at count e
@@ -137,23 +138,23 @@ module _ (bytes : List ℕ) where
   reads (n ∷ ns) zero due at count b e f h = absurd (omega arith)
   reads (n ∷ ns) (suc fuel) (Next w) at count b e f h =
       let behind : ℕ = at + length (encode_of n) in
-      let found : read_of bytes at ≡ Number n behind = read_standing bytes (bytes_of ns) at n b.0 e in
-      let rest : drop behind bytes ≡ bytes_of ns = sym (drop-drop (length (encode_of n)) at bytes) ∙ ap (drop (length (encode_of n))) e ∙ drop-append_seam (encode_of n) (bytes_of ns) in
+      let found : read_of bytes at ≡ Number n behind = read_standing bytes (encode_all ns) at n b.0 e in
+      let rest : drop behind bytes ≡ encode_all ns = sym (drop-drop (length (encode_of n)) at bytes) ∙ ap (drop (length (encode_of n))) e ∙ drop-append_seam (encode_of n) (encode_all ns) in
       reads_more fuel at count n behind w (next_of w n) ns (got_standing at w n behind (next_of w n) ns found refl f)
       (reads ns fuel (next_of w n) behind (count + 1) b.1 rest f (omega arith))
   reads (n ∷ ns) (suc fuel) End at count b e f h = never cc
   reads (n ∷ ns) (suc fuel) (Refused k) at count b e f h = never cc
 
 -- a row of numbers has at least as many bytes
-as_many : (ns : List ℕ) → length ns ≤ length (bytes_of ns)
-unfolding bytes_of
+as_many : (ns : List ℕ) → length ns ≤ length (encode_all ns)
+unfolding encode_all
 as_many [] = zero-le
-as_many (n ∷ ns) = omega (arith, length-append (encode_of n) (bytes_of ns), encode_some n, as_many ns)
+as_many (n ∷ ns) = omega (arith, length-append (encode_of n) (encode_all ns), encode_some n, as_many ns)
 
 -- numbers that the grammar takes to its end are taken from their bytes, where these are not over the packet limit
-pub bytes_taken : (ns : List ℕ) → Each (λ (n : ℕ). n < 2 ^ 32) ns → fold_of (Next Edition) ns ≡ End → length (bytes_of ns) ≤ BYTES
-    → (taken_of (bytes_of ns) ≡ Listing (length ns)) × (numbers_in (bytes_of ns) ≡ ns)
+pub bytes_taken : (ns : List ℕ) → Each (λ (n : ℕ). n < 2 ^ 32) ns → fold_of (Next Edition) ns ≡ End → length (encode_all ns) ≤ BYTES
+    → (taken_of (encode_all ns) ≡ Listing (length ns)) × (numbers_in (encode_all ns) ≡ ns)
 unfolding taken_of numbers_in
 bytes_taken ns b f h =
-    let r : Reads (bytes_of ns) (length (bytes_of ns) + 1) (Next Edition) 0 0 ns = reads (bytes_of ns) ns (length (bytes_of ns) + 1) (Next Edition) 0 0 b refl f (omega (arith, as_many ns)) in
-    (sym (not_less BYTES (length (bytes_of ns)) _ _ _ h (sym (r.taken ∙ ap Listing (zero-add (length ns))))), r.numbers)
+    let r : Reads (encode_all ns) (length (encode_all ns) + 1) (Next Edition) 0 0 ns = reads (encode_all ns) ns (length (encode_all ns) + 1) (Next Edition) 0 0 b refl f (omega (arith, as_many ns)) in
+    (sym (not_less BYTES (length (encode_all ns)) _ _ _ h (sym (r.taken ∙ ap Listing (zero-add (length ns))))), r.numbers)

@@ -3,9 +3,9 @@ use Rattle.std.specs.Prelude.{ℕ, List, [], ◌∷◌, ◌++◌}
 use Rattle.number.specs.Encode.{encode_of}
 use Rattle.listing.specs.Listing.{Listing, numbers_of}
 
-unfoldable pub bytes_of : List ℕ → List ℕ
-bytes_of [] = []
-bytes_of (n ∷ ns) = encode_of n ++ bytes_of ns
+unfoldable pub encode_all : List ℕ → List ℕ
+encode_all [] = []
+encode_all (n ∷ ns) = encode_of n ++ encode_all ns
 
 unfoldable pub packet_bytes : Listing → List ℕ
-packet_bytes l = bytes_of (numbers_of l)
+packet_bytes l = encode_all (numbers_of l)

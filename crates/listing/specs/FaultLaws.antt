@@ -1,4 +1,5 @@
--- A fault is the first: before its place stand numbers that the grammar takes, and at the place where reading stopped the next number is at fault, or bytes are left over.
+-- A fault is the first: before its place stand numbers that the grammar takes, and at the place where reading stopped
+-- the next number is at fault, or bytes are left over.
 use Prim.Native.Nat.{ℕ, zero, suc, ◌+◌, ◌<◌, ◌≤◌, zero-le}
 use Rattle.std.proofs.Common.{arith, ◌∙◌, ⊎_elim, ltb-true, ltb-false}
 use Rattle.std.proofs.Math.Path.{◌≡◌, refl, sym, ap, subst}
@@ -23,7 +24,7 @@ use Rattle.listing.specs.Limits.{BYTES, ENDED, LEFT_OVER, TOO_LONG}
 use Rattle.listing.specs.Grammar.{next_of}
 use Rattle.listing.specs.Fold.{fold_of}
 use Rattle.listing.specs.Packet.{due_then, found_then, got_of, end_of, numbers_then, numbers_from, taken_then, taken_from, numbers_in, taken_of}
-use Rattle.listing.specs.Bytes.{bytes_of}
+use Rattle.listing.specs.Bytes.{encode_all}
 use Rattle.listing.specs.PacketLaws.{got_behind}
 use Rattle.listing.specs.ByteLaws.{never, GotNumber, got_found}
 
@@ -36,11 +37,11 @@ WrongAt bytes stop number place (Refused k) = ⊥
 -- the first fault of a packet from a place on, ns being the numbers before it
 pub record FirstFault (bytes : List ℕ) (due : Due) (at : ℕ) (ns : List ℕ) (number place : ℕ) : Type 0 where
   pub stop : ℕ
-  pub before_it : drop at bytes ≡ bytes_of ns ++ drop stop bytes
+  pub before_it : drop at bytes ≡ encode_all ns ++ drop stop bytes
   pub wrong : WrongAt bytes stop number place (fold_of due ns)
 
 fault_end : (bytes : List ℕ) (at count number place : ℕ) → end_of (length bytes) at count ≡ Fault number place → FirstFault bytes End at [] number place
-unfolding end_of bytes_of fold_of WrongAt
+unfolding end_of encode_all fold_of WrongAt
 fault_end bytes at count number place e =
     ⊎_elim
     (λ p. record { stop = at; before_it = refl; wrong = (ltb-true at (length bytes) p.0, cc p.1, cc p.1) })
@@ -67,14 +68,14 @@ module _ (bytes : List ℕ) (below : (i : ℕ) → get_or bytes i 0 < 256) (numb
   fault_then : (g : Got) (at count : ℕ) (w : Wanted) (ns : Due → ℕ → List ℕ) (ts : Due → ℕ → ℕ → Taken) → got_of bytes at w ≡ g
       → ((v behind : ℕ) (d : Due) → got_of bytes at w ≡ Took v behind d → ts d behind (count + 1) ≡ Fault number place → FirstFault bytes d behind (ns d behind) number place)
       → taken_then g count ts ≡ Fault number place → FirstFault bytes (Next w) at (numbers_then g ns) number place
-  unfolding taken_then numbers_then bytes_of fold_of WrongAt
+  unfolding taken_then numbers_then encode_all fold_of WrongAt
   fault_then (Took v behind d) at count w ns ts e h p =
       let got : GotNumber bytes at w v behind d = got_found bytes at w (read_of bytes at) v behind d refl e in
       let one : Encoded bytes at v behind = encoded_read bytes at v behind below got.found in
       let rest : FirstFault bytes d behind (ns d behind) number place = h v behind d e p in
       record {
         stop = rest.stop;
-        before_it = one.stands ∙ ap (λ (l : List ℕ). encode_of v ++ l) rest.before_it ∙ sym (append_assoc (encode_of v) (bytes_of (ns d behind)) (drop rest.stop bytes));
+        before_it = one.stands ∙ ap (λ (l : List ℕ). encode_of v ++ l) rest.before_it ∙ sym (append_assoc (encode_of v) (encode_all (ns d behind)) (drop rest.stop bytes));
         wrong = subst (λ (x : Due). WrongAt bytes rest.stop number place (fold_of x (ns d behind))) (sym got.due) rest.wrong;
       }
   fault_then (Bad k q) at count w ns ts e h p = record { stop = at; before_it = refl; wrong = cc }

@@ -1,4 +1,5 @@
--- 01, "The packet": the numbers of a packet in order. `Wanted` says which number is due and how much is still to come; `next_of` says what is due after it: the next, nothing more, or that it is refused, with 3 for the edition and else 4.
+-- 01, "The packet": the numbers of a packet in order. `Wanted` says which number is due and how much is still to come;
+-- `next_of` says what is due after it: the next, nothing more, or that it is refused, with 3 for the edition and else 4.
 use Rattle.std.specs.Prelude.{ℕ, ◌-◌, ltb, eqb}
 use Rattle.choice.specs.Pick.{pick}
 use Rattle.listing.specs.declared.grammar.Wanted.{Wanted}
@@ -11,8 +12,8 @@ use Rattle.listing.specs.Limits.{EDITION, SHAPES, FIELDS, LABELS, STACK, REGISTE
 unfoldable pub within_of : ℕ → ℕ → ℕ → Due → Due
 within_of n low high after = pick (ltb n low) (Refused OUT_OF_RANGE) (pick (ltb high n) (Refused OUT_OF_RANGE) after)
 
-unfoldable pub below_of : ℕ → ℕ → Due → Due
-below_of n end after = pick (ltb n end) after (Refused OUT_OF_RANGE)
+unfoldable pub below_end : ℕ → ℕ → Due → Due
+below_end n end after = pick (ltb n end) after (Refused OUT_OF_RANGE)
 
 -- what is due where n shapes, fields, labels, stack labels, registers or items are still to come
 unfoldable pub shapes_from : ℕ → ℕ → Due
@@ -34,7 +35,8 @@ registers_from shapes labels more n last =
 unfoldable pub items_from : ℕ → ℕ → Due
 items_from labels n = pick (eqb n 0) End (Next (ItemNumber labels (n - 1)))
 
--- the operands of an item: none for halt; a label for jmp, cpush, cjmp and label; a register and a label for bnz; else three, the last of which is an immediate for items 10 to 14
+-- the operands of an item: none for halt; a label for jmp, cpush, cjmp and label; a register and a label for bnz; else
+-- three, the last of which is an immediate for items 10 to 14
 unfoldable pub operands_from : ℕ → ℕ → ℕ → Due
 operands_from labels more item =
     pick (eqb item 0) (items_from labels more)
@@ -53,7 +55,7 @@ next_of (FieldLevel shapes more fields) n = within_of n 0 TOP_LEVEL (fields_from
 next_of (LabelCount shapes) n = within_of n 1 LABELS (labels_from shapes n n)
 next_of (LabelLevel shapes labels more) n = within_of n 0 TOP_LEVEL (Next (StackLength shapes labels more))
 next_of (StackLength shapes labels more) n = within_of n 0 STACK (stack_from shapes labels more n)
-next_of (StackLabel shapes labels more stack) n = below_of n labels (stack_from shapes labels more stack)
+next_of (StackLabel shapes labels more stack) n = below_end n labels (stack_from shapes labels more stack)
 next_of (RegisterCount shapes labels more) n = within_of n 0 REGISTERS (registers_from shapes labels more n 0)
 next_of (RegisterIndex shapes labels more registers last) n =
     pick (ltb last n) (within_of n 1 TOP_PART (Next (RegisterKind shapes labels more registers n))) (Refused OUT_OF_RANGE)
@@ -61,7 +63,7 @@ next_of (RegisterKind shapes labels more registers last) n = within_of n 0 shape
 next_of (RegisterLevel shapes labels more registers last) n = within_of n 0 TOP_LEVEL (registers_from shapes labels more registers last)
 next_of (ItemCount labels) n = within_of n 1 ITEMS (items_from labels n)
 next_of (ItemNumber labels more) n = within_of n 0 TOP_ITEM (operands_from labels more n)
-next_of (OperandLabel labels more) n = below_of n labels (items_from labels more)
+next_of (OperandLabel labels more) n = below_end n labels (items_from labels more)
 next_of (BranchRegister labels more) n = within_of n 0 TOP_PART (Next (OperandLabel labels more))
 next_of (OperandFirst labels more high) n = within_of n 0 TOP_PART (Next (OperandSecond labels more high))
 next_of (OperandSecond labels more high) n = within_of n 0 TOP_PART (Next (OperandThird labels more high))

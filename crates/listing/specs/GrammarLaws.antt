@@ -1,4 +1,5 @@
--- The grammar by the variant that is due, for the proofs of code: `due` is the variant as the code has matched it, x what a callee made of the part behind it. `dues` holds the laws for a search.
+-- The grammar by the variant that is due, for the proofs of code: `due` is the variant as the code has matched it, x
+-- what a callee made of the part behind it. `dues` holds the laws for a search.
 use Rattle.std.specs.Prelude.{ℕ, ◌<◌, ◌≤◌, ◌≡◌, refl}
 use Rattle.std.proofs.Common.{sym, ◌∙◌}
 use Rattle.std.proofs.Math.Path.{ap}
@@ -8,7 +9,7 @@ use Rattle.listing.specs.declared.grammar.Wanted.TheVariants.{Edition, ShapeCoun
 use Rattle.listing.specs.declared.grammar.Due.{Due}
 use Rattle.listing.specs.declared.grammar.Due.TheVariants.{Next, End, Refused}
 use Rattle.listing.specs.Limits.{EDITION, SHAPES, FIELDS, LABELS, STACK, REGISTERS, ITEMS, TOP_LEVEL, TOP_PART, TOP_IMMEDIATE, TOP_ITEM, WRONG_EDITION, OUT_OF_RANGE}
-use Rattle.listing.specs.Grammar.{within_of, below_of, shapes_from, fields_from, labels_from, stack_from, registers_from, items_from, operands_from, next_of}
+use Rattle.listing.specs.Grammar.{within_of, below_end, shapes_from, fields_from, labels_from, stack_from, registers_from, items_from, operands_from, next_of}
 
 module _ (due : Wanted) (n : ℕ) (r : Due) where
   at_due : (d : Wanted) → due ≡ d → r ≡ next_of d n → r ≡ next_of due n
@@ -60,9 +61,9 @@ module _ (due : Wanted) (n : ℕ) (r : Due) where
   unfolding next_of
   due_stack_length shapes labels more x e a p = at_due (StackLength shapes labels more) e (p ∙ ap (within_of n 0 STACK) a)
 
-  pub due_stack_label : (shapes labels more stack : ℕ) (x : Due) → due ≡ StackLabel shapes labels more stack → x ≡ stack_from shapes labels more stack → r ≡ below_of n labels x → r ≡ next_of due n
+  pub due_stack_label : (shapes labels more stack : ℕ) (x : Due) → due ≡ StackLabel shapes labels more stack → x ≡ stack_from shapes labels more stack → r ≡ below_end n labels x → r ≡ next_of due n
   unfolding next_of
-  due_stack_label shapes labels more stack x e a p = at_due (StackLabel shapes labels more stack) e (p ∙ ap (below_of n labels) a)
+  due_stack_label shapes labels more stack x e a p = at_due (StackLabel shapes labels more stack) e (p ∙ ap (below_end n labels) a)
 
   pub due_register_count : (shapes labels more : ℕ) (x : Due) → due ≡ RegisterCount shapes labels more → x ≡ registers_from shapes labels more n 0 → r ≡ within_of n 0 REGISTERS x → r ≡ next_of due n
   unfolding next_of
@@ -84,9 +85,9 @@ module _ (due : Wanted) (n : ℕ) (r : Due) where
   unfolding next_of
   due_item_number labels more x e a p = at_due (ItemNumber labels more) e (p ∙ ap (within_of n 0 TOP_ITEM) a)
 
-  pub due_operand_label : (labels more : ℕ) (x : Due) → due ≡ OperandLabel labels more → x ≡ items_from labels more → r ≡ below_of n labels x → r ≡ next_of due n
+  pub due_operand_label : (labels more : ℕ) (x : Due) → due ≡ OperandLabel labels more → x ≡ items_from labels more → r ≡ below_end n labels x → r ≡ next_of due n
   unfolding next_of
-  due_operand_label labels more x e a p = at_due (OperandLabel labels more) e (p ∙ ap (below_of n labels) a)
+  due_operand_label labels more x e a p = at_due (OperandLabel labels more) e (p ∙ ap (below_end n labels) a)
 
   pub due_branch_register : (labels more : ℕ) → due ≡ BranchRegister labels more → r ≡ within_of n 0 TOP_PART (Next (OperandLabel labels more)) → r ≡ next_of due n
   unfolding next_of

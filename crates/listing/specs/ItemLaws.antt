@@ -1,4 +1,5 @@
--- The reading of an item: its number, and behind it the operands that the number asks for. `item_again`: it is made again from its row, so that no row is two items'. `item_size`: its number says how long the row is.
+-- The reading of an item: its number, and behind it the operands that the number asks for. `item_again`: it is made
+-- again from its row, so that no row is two items'. `item_size`: its number says how long the row is.
 use Rattle.std.specs.Prelude.{ℕ, ◌≤◌, ◌<◌, ◌≡◌, Bool, true, false, List, [], ◌∷◌, ◌++◌, length, get_or, ltb, eqb}
 use native.Mathlib.Omega.{arith}
 use Rattle.std.proofs.Math.Decide.{ℕ_discrete}
@@ -13,7 +14,7 @@ use Rattle.listing.specs.declared.items.Item.{Item}
 use Rattle.listing.specs.declared.items.Item.TheVariants.{Halt, Jmp, Bnz, Load, Store, Compute, ComputeImmediate, Cpush, Cjmp, Label}
 use Rattle.listing.specs.Limits.{TOP_ITEM, TOP_PART, TOP_IMMEDIATE}
 use Rattle.listing.specs.Listing.{single, item_numbers, Within, ItemRange}
-use Rattle.listing.specs.Parts.{number_at, item_of, item_at, size_of}
+use Rattle.listing.specs.Parts.{number_at, item_of, item_at, item_size}
 use Rattle.listing.specs.Grammar.{next_of, items_from, operands_from}
 use Rattle.listing.specs.Fold.{fold_of}
 use Rattle.listing.specs.Sorts.{Sort, Found, within_read, below_read, nothing_read, in_turn}
@@ -43,12 +44,12 @@ item_again labels (Cjmp l) rest h = refl
 item_again labels (Label l) rest h = refl
 
 -- and its row is as long as its number says; items 3 to 14 have three operands
-four_numbers : (n : ℕ) → Within 3 14 n → 4 ≡ size_of n
-unfolding size_of
+four_numbers : (n : ℕ) → Within 3 14 n → 4 ≡ item_size n
+unfolding item_size
 four_numbers n h = behind_three n _ _ _ _ _ h.0 (is_less n 15 _ _ _ (omega arith) refl)
 
-pub item_size : (labels : ℕ) (i : Item) (rest : List ℕ) → ItemRange labels i → length (item_numbers i) ≡ size_of (number_at (item_numbers i ++ rest) 0)
-unfolding item_numbers size_of pick
+pub item_size : (labels : ℕ) (i : Item) (rest : List ℕ) → ItemRange labels i → length (item_numbers i) ≡ item_size (number_at (item_numbers i ++ rest) 0)
+unfolding item_numbers item_size pick
 item_size labels Halt rest h = refl
 item_size labels (Jmp l) rest h = refl
 item_size labels (Bnz rs l) rest h = refl

@@ -1,4 +1,5 @@
--- What a listing is, and how a packet is read. To believe the reader, read Limits, Grammar and Packet, and for the theorems Listing, Parts, Fold, Bytes and Theorems; the rest are laws.
+-- What a listing is, and how a packet is read. To believe the reader, read Limits, Grammar and Packet, and for the
+-- theorems Listing, Parts, Fold, Bytes and Theorems; the rest are laws.
 pub mod Limits  -- limits and refusals, each named once
 pub mod Grammar  -- which number is due, and what is due after it
 pub mod GrammarLaws  -- the grammar by what is due, for the proofs of code
@@ -17,5 +18,7 @@ pub mod Bytes  -- the bytes of a row of numbers, and the packet of a listing
 pub mod ByteLaws  -- a packet is taken exactly where it is the bytes of numbers that the grammar takes
 pub mod FaultLaws  -- a refusal names the first fault
 pub mod RangeLaws  -- every number of a listing within the ranges can stand in a packet
+pub mod SizeLaws  -- how large a listing within the ranges is at most, in bytes and in numbers
+pub mod NamedLaws  -- what the reader answers has a name
 pub mod Theorems  -- a packet is taken exactly where it is the bytes of a listing, and of one
 pub mod Unique  -- any two results that meet a promise are equal

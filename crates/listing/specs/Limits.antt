@@ -1,5 +1,5 @@
 -- 01, "The packet" and "Refusal numbers": the limits of a listing and the reader's refusals, each named once; src/limits.rt has the same for the code.
-use Rattle.std.specs.Prelude.{ℕ}
+use Rattle.std.specs.Prelude.{ℕ, ◌+◌, List, [], ◌∷◌}
 
 -- the edition, and the most shapes, fields, labels, stack labels, registers, items, and bytes of a packet
 abbrev pub EDITION : ℕ
@@ -19,6 +19,10 @@ STACK = 16
 
 abbrev pub REGISTERS : ℕ
 REGISTERS = 15
+
+-- those registers and r0
+abbrev pub ALL_REGISTERS : ℕ
+ALL_REGISTERS = REGISTERS + 1
 
 abbrev pub ITEMS : ℕ
 ITEMS = 1024
@@ -57,3 +61,7 @@ LEFT_OVER = 5
 
 abbrev pub TOO_LONG : ℕ
 TOO_LONG = 6
+
+-- their order: 6 first; then of the first number with a fault 1, 2, 3 or 4; 5 last
+unfoldable pub reader_order : List ℕ
+reader_order = TOO_LONG ∷ ENDED ∷ MALFORMED ∷ WRONG_EDITION ∷ OUT_OF_RANGE ∷ LEFT_OVER ∷ []

@@ -1,4 +1,7 @@
--- A listing is a row of numbers that the grammar takes, and the other way round: the numbers of a listing in its ranges are taken to the end (`listing_taken`), each row taken to the end is the numbers of such a listing (`taken_listing`), and of only one (`numbers_injective`). All three are the reading of a listing, put together from the readings of its parts in the packet's order.
+-- A listing is a row of numbers that the grammar takes, and the other way round: the numbers of a listing in its ranges
+-- are taken to the end (`listing_taken`), each row taken to the end is the numbers of such a listing (`taken_listing`),
+-- and of only one (`numbers_injective`). All three are the reading of a listing, put together from the readings of its
+-- parts in the packet's order.
 use Rattle.std.specs.Prelude.{ℕ, ◌<◌, ◌≡◌, List, [], ◌∷◌, ◌++◌, length, ltb, eqb}
 use Rattle.std.proofs.Math.Path.{refl}
 use Rattle.std.proofs.Common.{sym, ap, ◌∙◌, append-nil, ltb-true, eqb-true}

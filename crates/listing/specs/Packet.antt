@@ -1,4 +1,5 @@
--- 01, "The packet" and "Refusal numbers": how a whole packet is read. 6 first; then number by number, left to right, each number's faults in the order 1, 2, 3 or 4; 5 last.
+-- 01, "The packet" and "Refusal numbers": how a whole packet is read. 6 first; then number by number, left to right,
+-- each number's faults in the order 1, 2, 3 or 4; 5 last.
 use Rattle.std.specs.Prelude.{ℕ, zero, suc, ◌+◌, List, [], ◌∷◌, length, set, ltb}
 use Rattle.choice.specs.Pick.{pick}
 use Rattle.number.specs.declared.Found.{Found}

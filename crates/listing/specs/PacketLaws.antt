@@ -4,7 +4,7 @@ use native.Mathlib.Omega.{arith}
 use Rattle.std.proofs.Math.Path.{sym, ap}
 use Rattle.std.proofs.Common.{subst, ◌∙◌}
 use Rattle.std.proofs.Math.ListN.{length}
-use Rattle.choice.specs.Pick.{is_less, not_less, both}
+use Rattle.choice.specs.Pick.{is_less, not_less, both_ways}
 use Rattle.number.specs.declared.Found.{Found}
 use Rattle.number.specs.declared.Found.TheVariants.{Number, Ended, Malformed}
 use Rattle.number.specs.Number.{read_of}

@@ -1,4 +1,6 @@
--- The parts of a listing's own numbers are the listing (`listing_back`). One law serves every part: where a row of numbers goes on with the numbers of a value, the value is read there again, and behind its place the rest stands. It is shown of single parts, of lists behind their counts, and so of the listing.
+-- The parts of a listing's own numbers are the listing (`listing_back`). One law serves every part: where a row of
+-- numbers goes on with the numbers of a value, the value is read there again, and behind its place the rest stands. It
+-- is shown of single parts, of lists behind their counts, and so of the listing.
 use Prim.Native.Nat.{ℕ, zero, suc, ◌+◌, ◌-◌, ◌*◌, ◌<◌, ◌≤◌}
 use Rattle.std.proofs.Common.{add-zero, sym, ◌∙◌, get_or-drop, drop-drop}
 use native.Mathlib.Omega.{arith}
@@ -10,7 +12,7 @@ use Rattle.std.proofs.Math.Seq.{drop-append_seam}
 use Rattle.choice.specs.Pick.{not_less}
 use Rattle.listing.specs.Limits.{SHAPES, FIELDS, LABELS, STACK, REGISTERS, ITEMS, TOP_LEVEL}
 use Rattle.listing.specs.Listing.{Listing, counted, single, field_numbers, register_numbers, label_numbers, item_numbers, numbers_of, EachAfter, ShapeRange, RegisterRange, FieldRange, LabelRange, ItemRange, Ranges}
-use Rattle.listing.specs.Parts.{parts_from, behind, number_at, count_of, count_at, field_at, shape_at, behind_shape, register_at, registers_place, label_at, behind_label, item_of, item_at, size_of, behind_item, labels_place, items_place, shapes_in, labels_in, items_in, listing_in}
+use Rattle.listing.specs.Parts.{parts_from, behind, number_at, count_of, count_at, field_at, shape_at, behind_shape, register_at, registers_place, label_at, behind_label, item_of, item_at, item_size, behind_item, labels_place, items_place, shapes_in, labels_in, items_in, listing_in}
 use Rattle.listing.specs.ItemLaws.{item_again, item_size}
 
 -- a row of parts, part by part
@@ -109,7 +111,7 @@ module _ (ns : List ℕ) where
   item_back labels =
       part_back (λ at i rest h s. (
         (λ j. item_of (first_at at _ s j) (number_at_lem at 1 _ s j) (number_at_lem at 2 _ s j) (number_at_lem at 3 _ s j)) ∙ sym (item_again labels i rest h),
-        ap (λ (n : ℕ). at + n) (ap size_of (first_at at _ s) ∙ sym (item_size labels i rest h)),
+        ap (λ (n : ℕ). at + n) (ap item_size (first_at at _ s) ∙ sym (item_size labels i rest h)),
       ))
 
   -- a field, a register and a shape, where the shapes are not over their limit: so no kind is
@@ -129,7 +131,7 @@ module _ (ns : List ℕ) where
     ))
 
     shape_back : Back (shape_at ns) (behind_shape ns) (counted field_numbers) (ShapeRange shapes)
-    shape_back = record { again = λ at l rest h. (counted_back (λ f. 0) (λ last. field_back) FIELDS (λ p. behind_equal 2 (p + 1) _)).again at l rest (h.count.1, h.fields) }
+    shape_back = record { again = λ at l rest h. (counted_back (λ f. 0) (λ last. field_back) FIELDS {place = behind_shape ns} (λ p. behind_equal 2 (p + 1) _ ∙ omega arith)).again at l rest (h.count.1, h.fields) }
 
     -- a label: its level, its stack, and behind it its registers
     label_back : (labels : ℕ) → Back (label_at ns) (behind_label ns) label_numbers (LabelRange shapes labels)
@@ -142,6 +144,7 @@ module _ (ns : List ℕ) where
               let place : registers_place ns at ≡ at + 1 + 1 + 1 * count_at STACK ns (at + 1) = omega arith in
               let stack = (counted_back (λ n. 0) (λ last. single_back) STACK (λ p. behind_equal 1 (p + 1) _)).again (at + 1) l.stack (register_row ++ rest) (h.depth.1, h.stack)
               (stands_behind at (at + 1) (single l.level) _ refl s ∙ append_assoc (counted single l.stack) register_row rest) in
+              let end : behind_label ns at ≡ registers_place ns at + 1 + 3 * count_at REGISTERS ns (registers_place ns at) = omega arith in
               let registers = (counted_back (λ r. r.index) register_back REGISTERS (λ p. behind_equal 3 (p + 1) _)).again (registers_place ns at) l.registers rest (h.count.1, h.registers)
               (ap (λ (p : ℕ). drop p ns) place ∙ stack.stands) in
               record {
@@ -150,7 +153,7 @@ module _ (ns : List ℕ) where
                   stack = (ap (λ (p : ℕ). parts_from (number_at ns) (λ q. q + 1) p (count_at STACK ns (at + 1))) from ∙ stack.same) i;
                   registers = registers.same i;
                 };
-                stands = registers.stands;
+                stands = ap (λ (p : ℕ). drop p ns) end ∙ registers.stands;
               };
         }
 

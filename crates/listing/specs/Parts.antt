@@ -26,15 +26,18 @@ count_of limit n = pick (ltb limit n) limit n
 abbrev pub count_at : ℕ → List ℕ → ℕ → ℕ
 count_at limit ns at = count_of limit (number_at ns at)
 
--- a field and a shape
+-- a field and a shape, how many numbers it is, and the place behind it
 abbrev pub field_at : List ℕ → ℕ → Field
 field_at ns at = record { kind = count_at SHAPES ns at; level = count_at TOP_LEVEL ns (at + 1) }
 
 abbrev pub shape_at : List ℕ → ℕ → List Field
 shape_at ns at = parts_from (field_at ns) (λ p. p + 2) (at + 1) (count_at FIELDS ns at)
 
+abbrev pub shape_size : List ℕ → ℕ → ℕ
+shape_size ns at = 1 + 2 * count_at FIELDS ns at
+
 abbrev pub behind_shape : List ℕ → ℕ → ℕ
-behind_shape ns at = at + 1 + 2 * count_at FIELDS ns at
+behind_shape ns at = at + shape_size ns at
 
 -- a register and a label's context; its registers' count stands behind its stack
 abbrev pub register_at : List ℕ → ℕ → Register
@@ -52,8 +55,11 @@ registers_at ns at = parts_from (register_at ns) (λ p. p + 3) (at + 1) (count_a
 abbrev pub label_at : List ℕ → ℕ → LabelContext
 label_at ns at = record { level = number_at ns at; stack = stack_at ns at; registers = registers_at ns (registers_place ns at) }
 
+abbrev pub label_size : List ℕ → ℕ → ℕ
+label_size ns at = 3 + count_at STACK ns (at + 1) + 3 * count_at REGISTERS ns (registers_place ns at)
+
 abbrev pub behind_label : List ℕ → ℕ → ℕ
-behind_label ns at = registers_place ns at + 1 + 3 * count_at REGISTERS ns (registers_place ns at)
+behind_label ns at = at + label_size ns at
 
 -- the item of a number and of operands, of which it takes as many as it has, and how many numbers it is
 unfoldable pub item_of : ℕ → ℕ → ℕ → ℕ → Item
@@ -71,11 +77,11 @@ item_of n a b c =
 abbrev pub item_at : List ℕ → ℕ → Item
 item_at ns at = item_of (number_at ns at) (number_at ns (at + 1)) (number_at ns (at + 2)) (number_at ns (at + 3))
 
-unfoldable pub size_of : ℕ → ℕ
-size_of n = pick (eqb n 0) 1 (pick (eqb n 1) 2 (pick (eqb n 2) 3 (pick (ltb n 15) 4 2)))
+unfoldable pub item_size : ℕ → ℕ
+item_size n = pick (eqb n 0) 1 (pick (eqb n 1) 2 (pick (eqb n 2) 3 (pick (ltb n 15) 4 2)))
 
 abbrev pub behind_item : List ℕ → ℕ → ℕ
-behind_item ns at = at + size_of (number_at ns at)
+behind_item ns at = at + item_size (number_at ns at)
 
 -- the edition stands at 0 and the shape count at 1; where the counts of labels and items stand
 unfoldable pub labels_place : List ℕ → ℕ

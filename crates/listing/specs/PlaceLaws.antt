@@ -4,9 +4,9 @@ use native.Mathlib.Omega.{arith}
 use Rattle.std.specs.Prelude.{◌≡◌, List}
 use Rattle.std.proofs.Math.Path.{sym, ap}
 use Rattle.std.proofs.Common.{subst, ◌∙◌}
-use Rattle.choice.specs.Pick.{both, if_less}
+use Rattle.choice.specs.Pick.{both_ways, if_less}
 use Rattle.listing.specs.Limits.{SHAPES, FIELDS, LABELS, STACK, REGISTERS, ITEMS}
-use Rattle.listing.specs.Parts.{behind, count_of, count_at, size_of, behind_shape, behind_label, labels_place, items_place}
+use Rattle.listing.specs.Parts.{behind, count_of, count_at, item_size, behind_shape, behind_label, labels_place, items_place}
 
 -- the most numbers of a shape, a label and an item
 abbrev pub SHAPE_NUMBERS : ℕ
@@ -34,11 +34,15 @@ pub count_held : (limit n r : ℕ) → r ≡ count_of limit n → r ≤ limit
 unfolding count_of
 count_held limit n r e = subst (λ (x : ℕ). x ≤ limit) (sym e) (if_less (λ (x : ℕ). x ≤ limit) limit n limit n (λ h. omega arith) (λ h. h))
 
-pub size_held : (n r : ℕ) → r ≡ size_of n → r ≤ ITEM_NUMBERS
-unfolding size_of
+pub size_held : (n r : ℕ) → r ≡ item_size n → r ≤ ITEM_NUMBERS
+unfolding item_size
 size_held n r e =
     let Held : ℕ → Type 0 = λ x. x ≤ ITEM_NUMBERS in
-    subst Held (sym e) (both Held _ _ _ (omega arith) (both Held _ _ _ (omega arith) (both Held _ _ _ (omega arith) (both Held _ _ _ (omega arith) (omega arith)))))
+    subst Held (sym e) (both_ways Held _ _ _ (omega arith) (both_ways Held _ _ _ (omega arith) (both_ways Held _ _ _ (omega arith) (both_ways Held _ _ _ (omega arith) (omega arith)))))
+
+-- as far on as a part is long
+pub further : (at size size' : ℕ) → size ≡ size' → at + size ≡ at + size'
+further at size size' = ap (λ (n : ℕ). at + n)
 
 -- a loop that goes from part to part: the whole place is the place behind what is left, and lies no further than the top
 abbrev pub Ahead : ℕ → (ℕ → ℕ) → ℕ → ℕ → ℕ → ℕ → Type 0
@@ -62,4 +66,4 @@ pub items_begin : (ns : List ℕ) (place n : ℕ) → place ≡ labels_place ns 
 unfolding items_place
 items_begin ns place n p e = rw (← p) (ap (behind (behind_label ns) (place + 1)) (sym e))
 
-pub ruleset places = (place_turn, place_end, labels_begin, items_begin)
+pub ruleset places = (further, place_turn, place_end, labels_begin, items_begin)

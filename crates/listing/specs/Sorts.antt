@@ -1,4 +1,7 @@
--- How the grammar reads the values of a sort. A `Sort` from d on says three things: the numbers of a value in its range are taken; a row that is read to its end begins with the numbers of such a value; and no row begins with those of two. The laws build readings from smaller ones: of a number, of one value behind another, of a value made of others, and of a list behind its length. A refused row never comes to its end, and that gives the ranges.
+-- How the grammar reads the values of a sort. A `Sort` from d on says three things: the numbers of a value in its range
+-- are taken; a row that is read to its end begins with the numbers of such a value; and no row begins with those of
+-- two. The laws build readings from smaller ones: of a number, of one value behind another, of a value made of others,
+-- and of a list behind its length. A refused row never comes to its end, and that gives the ranges.
 use Prim.Native.Nat.{ℕ, zero, suc, ◌-◌, ◌<◌}
 use native.Mathlib.Omega.{arith}
 use Rattle.std.specs.Prelude.{◌≡◌, Bool, true, false, length, ltb, eqb}
@@ -11,7 +14,7 @@ use Rattle.listing.specs.declared.grammar.Due.{Due}
 use Rattle.listing.specs.declared.grammar.Due.TheVariants.{Next, End, Refused}
 use Rattle.listing.specs.Limits.{OUT_OF_RANGE}
 use Rattle.listing.specs.Listing.{counted, single, Within, EachAfter}
-use Rattle.listing.specs.Grammar.{within_of, below_of, next_of}
+use Rattle.listing.specs.Grammar.{within_of, below_end, next_of}
 use Rattle.listing.specs.Fold.{fold_of}
 
 -- a value at the front of a row that is read to its end
@@ -76,8 +79,8 @@ within_read w low high after next =
     number_read w (Within low high) after (λ n h. within_taken low high n (after n) h ∙ next n)
     (λ n ns e. within_range low high n (after n) ns (ap (λ (d : Due). fold_of d ns) (next n) ∙ e))
 
-pub below_read : (w : Wanted) (end : ℕ) (after : Due) → ((n : ℕ) → below_of n end after ≡ next_of w n) → Sort (Next w) single (λ n. n < end) (λ n. after)
-unfolding below_of
+pub below_read : (w : Wanted) (end : ℕ) (after : Due) → ((n : ℕ) → below_end n end after ≡ next_of w n) → Sort (Next w) single (λ n. n < end) (λ n. after)
+unfolding below_end
 below_read w end after next =
     number_read w (λ n. n < end) (λ n. after) (λ n h. is_less n end _ _ _ h refl ∙ next n)
     (λ n ns e. ltb-true n end (else_refused (ltb n end) OUT_OF_RANGE after ns (ap (λ (d : Due). fold_of d ns) (next n) ∙ e)).0)

@@ -6,7 +6,7 @@ use Rattle.std.proofs.Math.Path.{sym, ap, subst}
 use Rattle.std.proofs.Math.ListN.{length, take}
 use Rattle.std.proofs.lemmas.List.Edits.{sets, sets-eq}
 use Rattle.std.proofs.Math.Seq.{take_at}
-use Rattle.choice.specs.Pick.{pick, both, either, is_less, not_less}
+use Rattle.choice.specs.Pick.{pick, both_ways, either, is_less, not_less}
 use Rattle.listing.specs.declared.grammar.Wanted.TheVariants.{Edition}
 use Rattle.listing.specs.declared.grammar.Due.{Due}
 use Rattle.listing.specs.declared.grammar.Due.TheVariants.{Next, End, Refused}
@@ -38,32 +38,32 @@ packet_taken (suc fuel) bytes End at numbers count = refl
 packet_taken (suc fuel) bytes (Refused k) at numbers count = refl
 
 -- a fault's place lies within the packet, and so does the count of its numbers, which is how many numbers there are
-unfoldable pub Within : ℕ → ℕ → List ℕ → Taken → Type 0
-Within end count ns (Listing n) = (n ≤ end) × (n ≡ count + length ns)
-Within end count ns (Fault k place) = place ≤ end
-Within end count ns NoRoom = Unit {0}
+unfoldable pub TakenWithin : ℕ → ℕ → List ℕ → Taken → Type 0
+TakenWithin end count ns (Listing n) = (n ≤ end) × (n ≡ count + length ns)
+TakenWithin end count ns (Fault k place) = place ≤ end
+TakenWithin end count ns NoRoom = Unit {0}
 
-end_within : (end at count : ℕ) → count ≤ at → at ≤ end → Within end count [] (end_of end at count)
-unfolding Within end_of
-end_within end at count h k = both (Within end count []) (ltb at end) _ _ k (omega arith, sym (add-zero count))
+end_within : (end at count : ℕ) → count ≤ at → at ≤ end → TakenWithin end count [] (end_of end at count)
+unfolding TakenWithin end_of
+end_within end at count h k = both_ways (TakenWithin end count []) (ltb at end) _ _ k (omega arith, sym (add-zero count))
 
-one_more_within : (end count v : ℕ) (ns : List ℕ) (t : Taken) → Within end (count + 1) ns t → Within end count (v ∷ ns) t
-unfolding Within
+one_more_within : (end count v : ℕ) (ns : List ℕ) (t : Taken) → TakenWithin end (count + 1) ns t → TakenWithin end count (v ∷ ns) t
+unfolding TakenWithin
 one_more_within end count v ns (Listing n) p = (p.0, omega arith)
 one_more_within end count v ns (Fault k place) p = p
 one_more_within end count v ns NoRoom p = p
 
 then_within : (g : Got) (end at count : ℕ) (ns : Due → ℕ → List ℕ) (ts : Due → ℕ → ℕ → Taken) → count ≤ at → Behind at end g
-    → ((due : Due) (a n : ℕ) → n ≤ a → a ≤ end → Within end n (ns due a) (ts due a n))
-    → Within end count (numbers_then g ns) (taken_then g count ts)
-unfolding Behind taken_then numbers_then Within
+    → ((due : Due) (a n : ℕ) → n ≤ a → a ≤ end → TakenWithin end n (ns due a) (ts due a n))
+    → TakenWithin end count (numbers_then g ns) (taken_then g count ts)
+unfolding Behind taken_then numbers_then TakenWithin
 then_within (Took v behind d) end at count ns ts h b p =
     one_more_within end count v (ns d behind) (ts d behind (count + 1)) (p d behind (count + 1) (omega arith) b.1)
 then_within (Bad k place) end at count ns ts h b p = b
 
 pub taken_within : (fuel : ℕ) (bytes : List ℕ) (due : Due) (at count : ℕ) → count ≤ at → at ≤ length bytes
-    → Within (length bytes) count (numbers_from fuel bytes due at) (taken_from fuel bytes due at count)
-unfolding taken_from numbers_from Within
+    → TakenWithin (length bytes) count (numbers_from fuel bytes due at) (taken_from fuel bytes due at count)
+unfolding taken_from numbers_from TakenWithin
 taken_within zero bytes due at count h k = le_refl (length bytes)
 taken_within (suc fuel) bytes (Next w) at count h k =
     then_within (got_of bytes at w) (length bytes) at count (numbers_from fuel bytes) (taken_from fuel bytes) h (got_placed bytes at w k) (taken_within fuel bytes)
@@ -83,25 +83,25 @@ module _ (bytes room room' : List ℕ) (t : Taken) (e : reading_of t room' ≡ p
   pub read_taken : t ≡ taken_of bytes
   read_taken = ap (λ (r : Reading). r.taken) read_all
 
-  all_within : Within (length bytes) 0 (numbers_in bytes) (taken_of bytes)
+  all_within : TakenWithin (length bytes) 0 (numbers_in bytes) (taken_of bytes)
   unfolding taken_of numbers_in
   all_within =
-      subst (Within (length bytes) 0 (numbers_from (length bytes + 1) bytes (Next Edition) 0)) (not_less BYTES (length bytes) _ _ _ h refl)
+      subst (TakenWithin (length bytes) 0 (numbers_from (length bytes + 1) bytes (Next Edition) 0)) (not_less BYTES (length bytes) _ _ _ h refl)
       (taken_within (length bytes + 1) bytes (Next Edition) 0 0 zero-le zero-le)
 
   pub read_count : (n : ℕ) → t ≡ Listing n → n ≤ length bytes
-  unfolding Within
-  read_count n p = (subst (Within (length bytes) 0 (numbers_in bytes)) (sym read_taken ∙ p) all_within).0
+  unfolding TakenWithin
+  read_count n p = (subst (TakenWithin (length bytes) 0 (numbers_in bytes)) (sym read_taken ∙ p) all_within).0
 
   pub read_place : (number place : ℕ) → t ≡ Fault number place → place ≤ length bytes
-  unfolding Within
-  read_place number place p = subst (Within (length bytes) 0 (numbers_in bytes)) (sym read_taken ∙ p) all_within
+  unfolding TakenWithin
+  read_place number place p = subst (TakenWithin (length bytes) 0 (numbers_in bytes)) (sym read_taken ∙ p) all_within
 
   -- the listing's numbers stand in front of the room
   pub read_numbers : (n : ℕ) → t ≡ Listing n → take n room' ≡ numbers_in bytes
-  unfolding Within
+  unfolding TakenWithin
   read_numbers n p =
-      let all : n ≡ 0 + length (numbers_in bytes) = (subst (Within (length bytes) 0 (numbers_in bytes)) (sym read_taken ∙ p) all_within).1 in
+      let all : n ≡ 0 + length (numbers_in bytes) = (subst (TakenWithin (length bytes) 0 (numbers_in bytes)) (sym read_taken ∙ p) all_within).1 in
       let fits : n ≤ length bytes = read_count n p in
       ap (λ (r : Reading). take n r.numbers) read_all
       ∙ ap (take n) (sets-eq (numbers_in bytes) room 0 (omega arith))

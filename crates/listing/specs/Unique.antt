@@ -1,4 +1,5 @@
--- Any two results that meet the promise of `read` are equal: what the packet is, and every word of the buffer. (`next`'s promise is an equation of its whole result.)
+-- Any two results that meet the promise of `read` are equal: what the packet is, and every word of the buffer.
+-- (`next`'s promise is an equation of its whole result.)
 use Rattle.std.specs.Prelude.{ℕ, ◌≡◌, List}
 use Rattle.std.proofs.Common.{sym, ap, ◌∙◌}
 use Rattle.listing.specs.declared.reading.Taken.{Taken}

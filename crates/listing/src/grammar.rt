@@ -1,7 +1,7 @@
 // Which number is due, and what is due after it. The grammar knows nothing of bytes or buffers, so a
 // reader of pieces and a writer can go by it too.
 ghost use Rattle.std.specs.Prelude.{◌≡◌};
-ghost use Rattle.listing.specs.Grammar.{next_of, within_of, below_of, shapes_from, fields_from, labels_from, stack_from, registers_from, items_from, operands_from};
+ghost use Rattle.listing.specs.Grammar.{next_of, within_of, below_end, shapes_from, fields_from, labels_from, stack_from, registers_from, items_from, operands_from};
 
 use crate::limits::{
     EDITION, FIELDS, ITEMS, LABELS, OUT_OF_RANGE, REGISTERS, SHAPES, STACK, TOP_IMMEDIATE,
@@ -70,7 +70,7 @@ fn within(n: u32, low: u32, high: u32, after: Due) -> Due
 }
 
 fn below(n: u32, end: u32, after: Due) -> Due
-    ensures { result ≡ below_of n end after }
+    ensures { result ≡ below_end n end after }
 {
     if n < end {
         after

@@ -1,6 +1,6 @@
 // The items of a listing, read off its numbers.
 ghost use Rattle.std.specs.Prelude.{◌≡◌, ◌≤◌, get_or};
-ghost use Rattle.listing.specs.Parts.{item_of, item_at, size_of, count_of};
+ghost use Rattle.listing.specs.Parts.{item_of, item_at, item_size, count_of};
 
 // An item, its operands in the packet's order.
 #[derive(Drop)]
@@ -71,9 +71,9 @@ pub fn item_at(numbers: &[u32], at: u32) -> Item
     )
 }
 
-// How many numbers an item is.
-pub fn item_size(n: u32) -> u32
-    ensures { result ≡ size_of n }
+// How many numbers the item of a number is.
+pub fn size_of(n: u32) -> u32
+    ensures { result ≡ item_size n }
 {
     match n {
         0 => 1,

@@ -7,6 +7,6 @@ mod places;
 mod reading;
 
 pub use grammar::{Due, Wanted, next};
-pub use items::{Item, at_most, item_at, item_size, number_at};
-pub use places::{behind_item, behind_label, behind_shape, count_at, items_place, labels_place};
-pub use reading::{Taken, read};
+pub use items::{Item, at_most, item_at, number_at};
+pub use places::{count_at, item_size, items_place, label_size, labels_place, shape_size};
+pub use reading::{Taken, longest_room, read};

@@ -12,6 +12,9 @@ pub const STACK: u32 = 16;
 
 pub const REGISTERS: u32 = 15;
 
+// Those and r0.
+pub const ALL_REGISTERS: usize = REGISTERS as usize + 1;
+
 pub const ITEMS: u32 = 1024;
 
 pub const BYTES: usize = 65536;

@@ -1,9 +1,9 @@
 // Where the parts of a listing stand among its numbers.
-ghost use Rattle.std.specs.Prelude.{◌≡◌, ◌+◌, ◌≤◌, ◌<◌, ◌^◌};
-ghost use Rattle.listing.specs.Parts.{count_at, behind_shape, behind_label, behind_item, labels_place, items_place};
+ghost use Rattle.std.specs.Prelude.{◌≡◌, ◌≤◌};
+ghost use Rattle.listing.specs.Parts.{number_at, count_at, shape_size, label_size, item_size, labels_place, items_place};
 ghost use Rattle.listing.specs.PlaceLaws.{SHAPE_NUMBERS, LABEL_NUMBERS, ITEM_NUMBERS, TOP_LABELS_PLACE, TOP_ITEMS_PLACE};
 
-use crate::items::{at_most, item_size, number_at};
+use crate::items::{at_most, number_at, size_of};
 use crate::limits::{FIELDS, LABELS, REGISTERS, SHAPES, STACK};
 
 // The count at a place, or its limit where that is less.
@@ -14,31 +14,31 @@ pub fn count_at(limit: u32, numbers: &[u32], at: u32) -> u32
     at_most(limit, number_at(numbers, at as usize))
 }
 
-// The places behind a shape, a label and an item.
+// How many numbers a shape, a label and an item are.
 
-pub fn behind_shape(numbers: &[u32], at: u32) -> u32
-    requires { at < 2 ^ 31 }
-    ensures value { result ≡ behind_shape numbers.now at }
-    ensures bounded { result ≤ at + SHAPE_NUMBERS }
+pub fn shape_size(numbers: &[u32], at: u32) -> u32
+    ensures value { result ≡ shape_size numbers.now at }
+    ensures bounded { result ≤ SHAPE_NUMBERS }
 {
-    at + 1 + 2 * count_at(FIELDS, numbers, at)
+    1 + 2 * count_at(FIELDS, numbers, at)
 }
 
-pub fn behind_label(numbers: &[u32], at: u32) -> u32
-    requires { at < 2 ^ 31 }
-    ensures value { result ≡ behind_label numbers.now at }
-    ensures bounded { result ≤ at + LABEL_NUMBERS }
+// The registers' count stands behind the stack. An index holds its place, wherever the label stands.
+pub fn label_size(numbers: &[u32], at: u32) -> u32
+    ensures value { result ≡ label_size numbers.now at }
+    ensures bounded { result ≤ LABEL_NUMBERS }
 {
-    let registers = at + 2 + count_at(STACK, numbers, at + 1);
-    registers + 1 + 3 * count_at(REGISTERS, numbers, registers)
+    let first = at as usize;
+    let stack = at_most(STACK, number_at(numbers, first + 1));
+    let registers = at_most(REGISTERS, number_at(numbers, first + 2 + stack as usize));
+    3 + stack + 3 * registers
 }
 
-pub fn behind_item(numbers: &[u32], at: u32) -> u32
-    requires { at < 2 ^ 31 }
-    ensures value { result ≡ behind_item numbers.now at }
-    ensures bounded { result ≤ at + ITEM_NUMBERS }
+pub fn item_size(numbers: &[u32], at: u32) -> u32
+    ensures value { result ≡ item_size (number_at numbers.now at) }
+    ensures bounded { result ≤ ITEM_NUMBERS }
 {
-    at + item_size(number_at(numbers, at as usize))
+    size_of(number_at(numbers, at as usize))
 }
 
 // Where the count of labels stands: behind the shapes.
@@ -49,7 +49,7 @@ pub fn labels_place(numbers: &[u32]) -> u32
     let mut at = 2;
     let mut left = count_at(SHAPES, numbers, 1);
     while 0 < left {
-        at = behind_shape(numbers, at);
+        at += shape_size(numbers, at);
         left -= 1;
     }
     at
@@ -64,7 +64,7 @@ pub fn items_place(numbers: &[u32]) -> u32
     let mut at = place + 1;
     let mut left = count_at(LABELS, numbers, place);
     while 0 < left {
-        at = behind_label(numbers, at);
+        at += label_size(numbers, at);
         left -= 1;
     }
     at

@@ -1,7 +1,8 @@
 // The whole reader: a packet's numbers, one after the other, by the grammar.
-ghost use Rattle.std.specs.Prelude.{◌≡◌, ◌+◌, ◌≤◌, length};
+ghost use Rattle.std.specs.Prelude.{◌≡◌, ◌+◌, ◌≤◌, length, replicate};
 ghost use Rattle.listing.specs.declared.grammar.Wanted.TheVariants.{Edition};
 ghost use Rattle.listing.specs.declared.grammar.Due.TheVariants.{Next};
+ghost use Rattle.listing.specs.Limits.{BYTES};
 ghost use Rattle.listing.specs.Packet.{got_of, due_then, end_of, reading_of, packet_from, packet_of};
 
 use crate::grammar::{Due, Wanted, next};
@@ -100,4 +101,11 @@ pub fn read(packet: &[u8], numbers: &mut [u32]) -> Taken
         return Taken::NoRoom;
     }
     read_numbers(packet, numbers)
+}
+
+// Room for the numbers of the longest packet.
+pub fn longest_room() -> [u32; BYTES]
+    ensures { result ≡ replicate BYTES 0 }
+{
+    [0; BYTES]
 }

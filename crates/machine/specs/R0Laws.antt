@@ -1,16 +1,17 @@
--- r0 is nobody's: a step reads nothing that the state holds there and writes nothing there. So a machine may go with 0 in r0 and have what it held put back at the end.
+-- r0 is nobody's: a step reads nothing that the state holds there and writes nothing there. So a machine may go with 0
+-- in r0 and have what it held put back at the end.
 use Prim.Native.Nat.{ℕ, zero, suc, ◌+◌}
 use Rattle.std.proofs.Common.{arith, ◌∙◌, get_or-set_other, set-set}
 use Rattle.std.specs.Prelude.{◌≡◌, List, length, get_or, set, ltb, eqb}
 use Rattle.std.proofs.Math.Path.{refl, sym, ap}
 use Rattle.std.proofs.lemmas.List.{set_comm, set-get_or}
-use Rattle.choice.specs.Pick.{pick, both, through}
+use Rattle.choice.specs.Pick.{pick, both_ways, through}
 use Rattle.machine.specs.Numbers.{RUNNING, HALTED}
 use Rattle.machine.specs.Arithmetic.{compute_of, extend_of}
 use Rattle.machine.specs.Word.{Kind, halt, jmp, bnz, load, store, compute, compute_immediate, bad, kind_of}
 use Rattle.machine.specs.TableLaws.{reads_zero, reads, writes_zero, writes}
 use Rattle.machine.specs.declared.table.State.{State}
-use Rattle.machine.specs.Step.{Machine, machine_at, machine_of, read_of, write_of, does_of, act_of, step_of}
+use Rattle.machine.specs.Step.{Machine, machine_at, machine_of, read_register, write_register, does_of, act_of, step_of}
 use Rattle.machine.specs.Run.{after, acted, acted_of, Outcome, outcome_at, outcome_from}
 
 -- the registers with v in r0
@@ -18,34 +19,34 @@ abbrev pub with_r0 : ℕ → List ℕ → List ℕ
 with_r0 v regs = set regs 0 v
 
 -- reads and writes of r0 and of the others
-read_zero : (regs : List ℕ) → read_of regs 0 ≡ 0
+read_zero : (regs : List ℕ) → read_register regs 0 ≡ 0
 read_zero regs = sym (reads_zero regs 0 0 refl refl)
 
-read_other : (regs : List ℕ) (i : ℕ) → read_of regs (suc i) ≡ get_or regs (suc i) 0
+read_other : (regs : List ℕ) (i : ℕ) → read_register regs (suc i) ≡ get_or regs (suc i) 0
 read_other regs i = sym (reads regs (suc i) (suc i) refl (λ h. omega arith))
 
-write_zero : (regs : List ℕ) (x : ℕ) → write_of regs 0 x ≡ regs
+write_zero : (regs : List ℕ) (x : ℕ) → write_register regs 0 x ≡ regs
 write_zero regs x = sym (writes_zero regs 0 0 refl x refl)
 
-write_other : (regs : List ℕ) (i x : ℕ) → write_of regs (suc i) x ≡ set regs (suc i) x
+write_other : (regs : List ℕ) (i x : ℕ) → write_register regs (suc i) x ≡ set regs (suc i) x
 write_other regs i x = sym (writes regs (suc i) (suc i) refl x (λ h. omega arith))
 
 -- where r0 holds 0, every register is read as it stands
-pub reads_plain : (regs : List ℕ) (i j : ℕ) → i ≡ j → get_or regs 0 0 ≡ 0 → get_or regs i 0 ≡ read_of regs j
+pub reads_plain : (regs : List ℕ) (i j : ℕ) → i ≡ j → get_or regs 0 0 ≡ 0 → get_or regs i 0 ≡ read_register regs j
 reads_plain regs i zero e z = ap (λ (k : ℕ). get_or regs k 0) e ∙ z ∙ sym (read_zero regs)
 reads_plain regs i (suc j) e z = ap (λ (k : ℕ). get_or regs k 0) e ∙ sym (read_other regs j)
 
-read_any_r0 : (v : ℕ) (regs : List ℕ) (i : ℕ) → read_of (with_r0 v regs) i ≡ read_of regs i
+read_any_r0 : (v : ℕ) (regs : List ℕ) (i : ℕ) → read_register (with_r0 v regs) i ≡ read_register regs i
 read_any_r0 v regs zero = read_zero (with_r0 v regs) ∙ sym (read_zero regs)
 read_any_r0 v regs (suc i) =
     read_other (with_r0 v regs) i ∙ get_or-set_other regs 0 (suc i) v 0 (omega arith) ∙ sym (read_other regs i)
 
-write_any_r0 : (v : ℕ) (regs : List ℕ) (i x : ℕ) → write_of (with_r0 v regs) i x ≡ with_r0 v (write_of regs i x)
+write_any_r0 : (v : ℕ) (regs : List ℕ) (i x : ℕ) → write_register (with_r0 v regs) i x ≡ with_r0 v (write_register regs i x)
 write_any_r0 v regs zero x = write_zero (with_r0 v regs) x ∙ ap (with_r0 v) (sym (write_zero regs x))
 write_any_r0 v regs (suc i) x =
     write_other (with_r0 v regs) i x ∙ set_comm regs 0 (suc i) v x (omega arith) ∙ ap (with_r0 v) (sym (write_other regs i x))
 
-write_keeps_r0 : (regs : List ℕ) (i x : ℕ) → get_or (write_of regs i x) 0 0 ≡ get_or regs 0 0
+write_keeps_r0 : (regs : List ℕ) (i x : ℕ) → get_or (write_register regs i x) 0 0 ≡ get_or regs 0 0
 write_keeps_r0 regs zero x = ap (λ (l : List ℕ). get_or l 0 0) (write_zero regs x)
 write_keeps_r0 regs (suc i) x = ap (λ (l : List ℕ). get_or l 0 0) (write_other regs i x) ∙ get_or-set_other regs (suc i) 0 x 0 (omega arith)
 
@@ -79,16 +80,16 @@ module _ (regs : List ℕ) (pc : ℕ) (heap : List ℕ) where
   unfolding does_of
   does_keeps_r0 halt = refl
   does_keeps_r0 (jmp target) = refl
-  does_keeps_r0 (bnz rs target) = both (KeepsR0 regs) _ _ _ refl refl
-  does_keeps_r0 (load rd rs offset) = both (KeepsR0 regs) _ _ _ (write_keeps_r0 regs rd _) refl
-  does_keeps_r0 (store rd rs offset) = both (KeepsR0 regs) _ _ _ refl refl
+  does_keeps_r0 (bnz rs target) = both_ways (KeepsR0 regs) _ _ _ refl refl
+  does_keeps_r0 (load rd rs offset) = both_ways (KeepsR0 regs) _ _ _ (write_keeps_r0 regs rd _) refl
+  does_keeps_r0 (store rd rs offset) = both_ways (KeepsR0 regs) _ _ _ refl refl
   does_keeps_r0 (compute op rd rs rt) = write_keeps_r0 regs rd _
   does_keeps_r0 (compute_immediate op rd rs i) = write_keeps_r0 regs rd _
   does_keeps_r0 bad = refl
 
   act_keeps_r0 : (code : List ℕ) → KeepsR0 regs (act_of code regs pc heap)
   unfolding act_of
-  act_keeps_r0 code = both (KeepsR0 regs) _ _ _ (does_keeps_r0 (kind_of (get_or code pc 0))) refl
+  act_keeps_r0 code = both_ways (KeepsR0 regs) _ _ _ (does_keeps_r0 (kind_of (get_or code pc 0))) refl
 
 -- a machine that went with 0 in r0 has what it held put back
 restored : (m : Machine) (v : ℕ) → v ≡ get_or m.state.regs 0 0 → at_r0 v (at_r0 0 m) ≡ m
@@ -115,7 +116,7 @@ module _ (code : List ℕ) where
 
   step_keeps_r0 : (m : Machine) → KeepsR0 m.state.regs (step_of code m)
   unfolding step_of
-  step_keeps_r0 m = both (KeepsR0 m.state.regs) _ _ _ (act_keeps_r0 m.state.regs m.state.pc m.heap code) refl
+  step_keeps_r0 m = both_ways (KeepsR0 m.state.regs) _ _ _ (act_keeps_r0 m.state.regs m.state.pc m.heap code) refl
 
   after_any_r0 : (n v : ℕ) (m : Machine) → after code n (at_r0 v m) ≡ at_r0 v (after code n m)
   unfolding after

@@ -19,33 +19,33 @@ abbrev pub machine_of : State → List ℕ → Machine
 machine_of s heap = record { state = s; heap = heap }
 
 -- a register's word: r0 reads as 0 whatever the state holds
-unfoldable pub read_of : List ℕ → ℕ → ℕ
-read_of regs i = pick (eqb i 0) 0 (get_or regs i 0)
+unfoldable pub read_register : List ℕ → ℕ → ℕ
+read_register regs i = pick (eqb i 0) 0 (get_or regs i 0)
 
 -- the registers after a write: to r0 it has no effect
-unfoldable pub write_of : List ℕ → ℕ → ℕ → List ℕ
-write_of regs i v = pick (eqb i 0) regs (set regs i v)
+unfoldable pub write_register : List ℕ → ℕ → ℕ → List ℕ
+write_register regs i v = pick (eqb i 0) regs (set regs i v)
 
 -- the step table: what a word of each kind does to a running machine. A trap changes only the status
 unfoldable pub does_of : Kind → List ℕ → ℕ → List ℕ → Machine
 does_of halt regs pc heap = machine_at regs pc HALTED heap
 does_of (jmp target) regs pc heap = machine_at regs target RUNNING heap
 does_of (bnz rs target) regs pc heap =
-    pick (eqb (read_of regs rs) 0)
+    pick (eqb (read_register regs rs) 0)
     (machine_at regs (pc + 1) RUNNING heap)
     (machine_at regs target RUNNING heap)
 does_of (load rd rs offset) regs pc heap =
-    pick (ltb (read_of regs rs + offset) (length heap))
-    (machine_at (write_of regs rd (get_or heap (read_of regs rs + offset) 0)) (pc + 1) RUNNING heap)
+    pick (ltb (read_register regs rs + offset) (length heap))
+    (machine_at (write_register regs rd (get_or heap (read_register regs rs + offset) 0)) (pc + 1) RUNNING heap)
     (machine_at regs pc BAD_ADDRESS heap)
 does_of (store rd rs offset) regs pc heap =
-    pick (ltb (read_of regs rd + offset) (length heap))
-    (machine_at regs (pc + 1) RUNNING (set heap (read_of regs rd + offset) (read_of regs rs)))
+    pick (ltb (read_register regs rd + offset) (length heap))
+    (machine_at regs (pc + 1) RUNNING (set heap (read_register regs rd + offset) (read_register regs rs)))
     (machine_at regs pc BAD_ADDRESS heap)
 does_of (compute op rd rs rt) regs pc heap =
-    machine_at (write_of regs rd (compute_of op (read_of regs rs) (read_of regs rt))) (pc + 1) RUNNING heap
+    machine_at (write_register regs rd (compute_of op (read_register regs rs) (read_register regs rt))) (pc + 1) RUNNING heap
 does_of (compute_immediate op rd rs i) regs pc heap =
-    machine_at (write_of regs rd (compute_of op (read_of regs rs) (extend_of i))) (pc + 1) RUNNING heap
+    machine_at (write_register regs rd (compute_of op (read_register regs rs) (extend_of i))) (pc + 1) RUNNING heap
 does_of bad regs pc heap = machine_at regs pc BAD_WORD heap
 
 -- a running machine acts on the word at its pc, or traps where there is none

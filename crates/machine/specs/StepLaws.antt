@@ -1,7 +1,8 @@
--- Laws of a step, for the crates above: what it does at a word of each kind (with TableLaws), that a stopped machine stays, what it reads of the code, that the heap keeps its length.
+-- Laws of a step, for the crates above: what it does at a word of each kind (with TableLaws), that a stopped machine
+-- stays, what it reads of the code, that the heap keeps its length.
 use Rattle.std.specs.Prelude.{ℕ, ◌<◌, ◌≡◌, refl, List, length, get_or}
 use Rattle.std.proofs.Common.{sym, ◌∙◌, length-set}
-use Rattle.choice.specs.Pick.{both, is_equal, not_equal}
+use Rattle.choice.specs.Pick.{both_ways, is_equal, not_equal}
 use Rattle.machine.specs.Numbers.{RUNNING}
 use Rattle.machine.specs.Word.{Kind, halt, jmp, bnz, load, store, compute, compute_immediate, bad, kind_of}
 use Rattle.machine.specs.declared.table.State.{State}
@@ -48,9 +49,9 @@ pub does_heap_length : (k : Kind) (regs : List ℕ) (pc : ℕ) (heap : List ℕ)
 unfolding does_of
 does_heap_length halt regs pc heap = refl
 does_heap_length (jmp target) regs pc heap = refl
-does_heap_length (bnz rs target) regs pc heap = both (HeapAsLong heap) _ _ _ refl refl
-does_heap_length (load rd rs offset) regs pc heap = both (HeapAsLong heap) _ _ _ refl refl
-does_heap_length (store rd rs offset) regs pc heap = both (HeapAsLong heap) _ _ _ (length-set heap _ _) refl
+does_heap_length (bnz rs target) regs pc heap = both_ways (HeapAsLong heap) _ _ _ refl refl
+does_heap_length (load rd rs offset) regs pc heap = both_ways (HeapAsLong heap) _ _ _ refl refl
+does_heap_length (store rd rs offset) regs pc heap = both_ways (HeapAsLong heap) _ _ _ (length-set heap _ _) refl
 does_heap_length (compute op rd rs rt) regs pc heap = refl
 does_heap_length (compute_immediate op rd rs i) regs pc heap = refl
 does_heap_length bad regs pc heap = refl
@@ -58,6 +59,6 @@ does_heap_length bad regs pc heap = refl
 pub step_heap_length : (code : List ℕ) (m : Machine) → length (step_of code m).heap ≡ length m.heap
 unfolding step_of act_of
 step_heap_length code m =
-    both (HeapAsLong m.heap) _ _ _
-    (both (HeapAsLong m.heap) _ _ _ (does_heap_length (kind_of (get_or code m.state.pc 0)) m.state.regs m.state.pc m.heap) refl)
+    both_ways (HeapAsLong m.heap) _ _ _
+    (both_ways (HeapAsLong m.heap) _ _ _ (does_heap_length (kind_of (get_or code m.state.pc 0)) m.state.regs m.state.pc m.heap) refl)
     refl

@@ -15,23 +15,23 @@ use Rattle.machine.specs.Numbers.{HALTED, NO_WORD, BAD_WORD, BAD_ADDRESS, RUNNIN
 use Rattle.machine.specs.Arithmetic.{compute_of, extend_of}
 use Rattle.machine.specs.Word.{Kind, halt, jmp, bnz, load, store, compute, compute_immediate, bad, whole, halt_in, jmp_in, bnz_in, load_in, store_in, compute_in, compute_immediate_in, opcode_of, kind_at, kind_of}
 use Rattle.machine.specs.WordLaws.{op_halt, op_jmp, op_bnz, op_load, op_store, op_compute_at, op_compute_immediate_at, op_compute_immediate_of, op_none}
-use Rattle.machine.specs.Step.{Machine, machine_at, read_of, write_of, does_of, act_of}
+use Rattle.machine.specs.Step.{Machine, machine_at, read_register, write_register, does_of, act_of}
 
 module _ (regs : List ℕ) (i j : ℕ) (e : i ≡ j) where
-  pub reads_zero : i ≡ 0 → 0 ≡ read_of regs j
-  unfolding read_of
+  pub reads_zero : i ≡ 0 → 0 ≡ read_register regs j
+  unfolding read_register
   reads_zero z = is_equal j 0 _ _ _ (sym e ∙ z) refl
 
-  pub reads : (i ≡ 0 → ⊥) → get_or regs i 0 ≡ read_of regs j
-  unfolding read_of
+  pub reads : (i ≡ 0 → ⊥) → get_or regs i 0 ≡ read_register regs j
+  unfolding read_register
   reads z = not_equal j 0 _ _ _ (λ h. z (e ∙ h)) (ap (λ (k : ℕ). get_or regs k 0) e)
 
-  pub writes_zero : (v : ℕ) → i ≡ 0 → regs ≡ write_of regs j v
-  unfolding write_of
+  pub writes_zero : (v : ℕ) → i ≡ 0 → regs ≡ write_register regs j v
+  unfolding write_register
   writes_zero v z = is_equal j 0 _ _ _ (sym e ∙ z) refl
 
-  pub writes : (v : ℕ) → (i ≡ 0 → ⊥) → set regs i v ≡ write_of regs j v
-  unfolding write_of
+  pub writes : (v : ℕ) → (i ≡ 0 → ⊥) → set regs i v ≡ write_register regs j v
+  unfolding write_register
   writes v z = not_equal j 0 _ _ _ (λ h. z (e ∙ h)) (ap (λ (k : ℕ). set regs k v) e)
 
 pub ruleset registers = (reads_zero, reads, writes_zero, writes)
@@ -61,44 +61,44 @@ module _ (regs : List ℕ) (pc : ℕ) (heap : List ℕ) where
   unfolding does_of
   does_jmp target t e = ap (λ (i : ℕ). machine_at regs i RUNNING heap) e
 
-  pub does_fall : (rs target v : ℕ) → v ≡ read_of regs rs → v ≡ 0 → machine_at regs (pc + 1) RUNNING heap ≡ does_of (bnz rs target) regs pc heap
+  pub does_fall : (rs target v : ℕ) → v ≡ read_register regs rs → v ≡ 0 → machine_at regs (pc + 1) RUNNING heap ≡ does_of (bnz rs target) regs pc heap
   unfolding does_of
-  does_fall rs target v e z = is_equal (read_of regs rs) 0 _ _ _ (sym e ∙ z) refl
+  does_fall rs target v e z = is_equal (read_register regs rs) 0 _ _ _ (sym e ∙ z) refl
 
-  pub does_branch : (rs target v t : ℕ) → v ≡ read_of regs rs → (v ≡ 0 → ⊥) → t ≡ target → machine_at regs t RUNNING heap ≡ does_of (bnz rs target) regs pc heap
+  pub does_branch : (rs target v t : ℕ) → v ≡ read_register regs rs → (v ≡ 0 → ⊥) → t ≡ target → machine_at regs t RUNNING heap ≡ does_of (bnz rs target) regs pc heap
   unfolding does_of
-  does_branch rs target v t e z g = not_equal (read_of regs rs) 0 _ _ _ (λ h. z (e ∙ h)) (ap (λ (i : ℕ). machine_at regs i RUNNING heap) g)
+  does_branch rs target v t e z g = not_equal (read_register regs rs) 0 _ _ _ (λ h. z (e ∙ h)) (ap (λ (i : ℕ). machine_at regs i RUNNING heap) g)
 
-  pub does_load : (rd rs offset at : ℕ) (regs' : List ℕ) → at ≡ read_of regs rs + offset → at < length heap → regs' ≡ write_of regs rd (get_or heap at 0)
+  pub does_load : (rd rs offset at : ℕ) (regs' : List ℕ) → at ≡ read_register regs rs + offset → at < length heap → regs' ≡ write_register regs rd (get_or heap at 0)
       → machine_at regs' (pc + 1) RUNNING heap ≡ does_of (load rd rs offset) regs pc heap
   unfolding does_of
   does_load rd rs offset at regs' e h p =
-      is_less (read_of regs rs + offset) (length heap) _ _ _ (rw e at h)
-      (ap (λ (rs' : List ℕ). machine_at rs' (pc + 1) RUNNING heap) (p ∙ ap (λ (i : ℕ). write_of regs rd (get_or heap i 0)) e))
+      is_less (read_register regs rs + offset) (length heap) _ _ _ (rw e at h)
+      (ap (λ (rs' : List ℕ). machine_at rs' (pc + 1) RUNNING heap) (p ∙ ap (λ (i : ℕ). write_register regs rd (get_or heap i 0)) e))
 
-  pub does_load_trap : (rd rs offset at : ℕ) → at ≡ read_of regs rs + offset → length heap ≤ at
+  pub does_load_trap : (rd rs offset at : ℕ) → at ≡ read_register regs rs + offset → length heap ≤ at
       → machine_at regs pc BAD_ADDRESS heap ≡ does_of (load rd rs offset) regs pc heap
   unfolding does_of
-  does_load_trap rd rs offset at e h = not_less (read_of regs rs + offset) (length heap) _ _ _ (rw e at h) refl
+  does_load_trap rd rs offset at e h = not_less (read_register regs rs + offset) (length heap) _ _ _ (rw e at h) refl
 
-  pub does_store : (rd rs offset at v : ℕ) → at ≡ read_of regs rd + offset → at < length heap → v ≡ read_of regs rs
+  pub does_store : (rd rs offset at v : ℕ) → at ≡ read_register regs rd + offset → at < length heap → v ≡ read_register regs rs
       → machine_at regs (pc + 1) RUNNING (set heap at v) ≡ does_of (store rd rs offset) regs pc heap
   unfolding does_of
   does_store rd rs offset at v e h p =
-      is_less (read_of regs rd + offset) (length heap) _ _ _ (rw e at h)
-      (ap (λ (h' : List ℕ). machine_at regs (pc + 1) RUNNING h') (ap (λ (i : ℕ). set heap i v) e ∙ ap (set heap (read_of regs rd + offset)) p))
+      is_less (read_register regs rd + offset) (length heap) _ _ _ (rw e at h)
+      (ap (λ (h' : List ℕ). machine_at regs (pc + 1) RUNNING h') (ap (λ (i : ℕ). set heap i v) e ∙ ap (set heap (read_register regs rd + offset)) p))
 
-  pub does_store_trap : (rd rs offset at : ℕ) → at ≡ read_of regs rd + offset → length heap ≤ at
+  pub does_store_trap : (rd rs offset at : ℕ) → at ≡ read_register regs rd + offset → length heap ≤ at
       → machine_at regs pc BAD_ADDRESS heap ≡ does_of (store rd rs offset) regs pc heap
   unfolding does_of
-  does_store_trap rd rs offset at e h = not_less (read_of regs rd + offset) (length heap) _ _ _ (rw e at h) refl
+  does_store_trap rd rs offset at e h = not_less (read_register regs rd + offset) (length heap) _ _ _ (rw e at h) refl
 
-  pub does_compute : (op rd rs rt a b v : ℕ) (regs' : List ℕ) → a ≡ read_of regs rs → b ≡ read_of regs rt → v ≡ compute_of op a b → regs' ≡ write_of regs rd v
+  pub does_compute : (op rd rs rt a b v : ℕ) (regs' : List ℕ) → a ≡ read_register regs rs → b ≡ read_register regs rt → v ≡ compute_of op a b → regs' ≡ write_register regs rd v
       → machine_at regs' (pc + 1) RUNNING heap ≡ does_of (compute op rd rs rt) regs pc heap
   unfolding does_of
   does_compute op rd rs rt a b v regs' ea eb ev p = ap (λ (rs' : List ℕ). machine_at rs' (pc + 1) RUNNING heap) cc
 
-  pub does_compute_immediate : (op rd rs i a b v low : ℕ) (regs' : List ℕ) → a ≡ read_of regs rs → low ≡ i → b ≡ extend_of low → v ≡ compute_of op a b → regs' ≡ write_of regs rd v
+  pub does_compute_immediate : (op rd rs i a b v low : ℕ) (regs' : List ℕ) → a ≡ read_register regs rs → low ≡ i → b ≡ extend_of low → v ≡ compute_of op a b → regs' ≡ write_register regs rd v
       → machine_at regs' (pc + 1) RUNNING heap ≡ does_of (compute_immediate op rd rs i) regs pc heap
   unfolding does_of
   does_compute_immediate op rd rs i a b v low regs' ea el eb ev p = ap (λ (rs' : List ℕ). machine_at rs' (pc + 1) RUNNING heap) cc

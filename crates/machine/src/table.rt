@@ -1,7 +1,7 @@
 // The state, and one step of the machine.
 ghost use Rattle.std.specs.Prelude.{◌≡◌, ◌+◌, ◌/◌, ◌%◌, ◌<◌, ◌^◌, get_or};
 ghost use Rattle.machine.specs.Word.{part_of, rd_of, rt_of, low_of, halt_in, jmp_in, bnz_in, load_in, store_in, compute_in, compute_immediate_in};
-ghost use Rattle.machine.specs.Step.{machine_at, machine_of, read_of, write_of, does_of, act_of, step_of};
+ghost use Rattle.machine.specs.Step.{machine_at, machine_of, read_register, write_register, does_of, act_of, step_of};
 
 use crate::arithmetic::{compute, extended};
 use crate::numbers::{BAD_ADDRESS, BAD_WORD, HALTED, NO_WORD, RUNNING};
@@ -49,14 +49,14 @@ fn low(w: u32) -> u16
 fn read(regs: &[u32; 16], w: u32, at: u32) -> u32
     requires at_bound { at < 32 }
     requires regs_value { get_or regs.now 0 0 ≡ 0 }
-    ensures { result ≡ read_of regs.now (part_of w at) }
+    ensures { result ≡ read_register regs.now (part_of w at) }
 {
     regs[part(w, at)]
 }
 
 // Writes the register rd of w; a write to r0 has no effect.
 fn write(regs: &mut [u32; 16], w: u32, v: u32)
-    ensures { regs.new ≡ write_of regs.old (rd_of w) v }
+    ensures { regs.new ≡ write_register regs.old (rd_of w) v }
 {
     let i = part(w, RD);
     if i == 0 {
@@ -69,7 +69,7 @@ fn write(regs: &mut [u32; 16], w: u32, v: u32)
 fn address(regs: &[u32; 16], w: u32, at: u32) -> usize
     requires at_bound { at < 32 }
     requires regs_value { get_or regs.now 0 0 ≡ 0 }
-    ensures { result ≡ read_of regs.now (part_of w at) + low_of w }
+    ensures { result ≡ read_register regs.now (part_of w at) + low_of w }
 {
     read(regs, w, at) as usize + low(w) as usize
 }

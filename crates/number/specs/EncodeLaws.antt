@@ -1,6 +1,7 @@
--- A number is read at a place exactly when its bytes stand there: `read_standing` and `read_encoded` one way, `encoded_read` the other; so one number is read there, by one encoding.
+-- A number is read at a place exactly when its bytes stand there: `read_standing` and `read_encoded` one way,
+-- `encoded_read` the other; so one number is read there, by one encoding.
 -- Each way is one induction on the groups left, over any rest of a number: what its groups count, with those read before them, is the number.
-use Prim.Native.Nat.{ℕ, zero, suc, ◌+◌, ◌*◌, ◌/◌, ◌%◌, ◌^◌, ◌<◌, ◌≤◌}
+use Prim.Native.Nat.{ℕ, zero, suc, ◌+◌, ◌-◌, ◌*◌, ◌/◌, ◌%◌, ◌^◌, ◌<◌, ◌≤◌}
 use Rattle.std.proofs.Common.{add-mul, mul_assoc, mul_comm, pow-suc, ◌∙◌, length-append, drop-drop, lit<, lit≤}
 use Rattle.std.proofs.Math.Numerals.{add-one}
 use Rattle.std.proofs.Math.Decide.{dec_lt}
@@ -12,10 +13,10 @@ use Rattle.std.proofs.Math.ListN.{length, get_or, drop, length-drop}
 use Rattle.std.proofs.Math.Seq.{drop-cons, drop-append_seam}
 use Rattle.std.proofs.Math.Dec.{eqb-suc-zero}
 use borrow.Author.Tests.{ltb-true, ltb-false, eqb-true}
-use Rattle.choice.specs.Pick.{pick, is_less, not_less, is_equal, not_equal, both, either}
+use Rattle.choice.specs.Pick.{pick, is_less, not_less, is_equal, not_equal, both_ways, if_less, either}
 use Rattle.number.specs.declared.Found.{Found}
-use Rattle.number.specs.declared.Found.TheVariants.{Number}
-use Rattle.number.specs.Number.{GROUPS, CONTINUES, last_of, groups_of, read_of, refusal_of}
+use Rattle.number.specs.declared.Found.TheVariants.{Number, Ended, Malformed}
+use Rattle.number.specs.Number.{GROUPS, CONTINUES, last_of, groups_of, read_of}
 use Rattle.number.specs.Encode.{encode_from, encode_of}
 
 -- the bytes of a number by its lowest group: the only byte, or one that continues and the bytes of the groups above
@@ -35,18 +36,25 @@ module _ (left n : ℕ) where
 group_and_rest_count : (v n g rest scale : ℕ) → n ≡ g + rest * 128 → v + n * scale ≡ v + g * scale + rest * (scale * 128)
 group_and_rest_count v n g rest scale e = rw e (omega (arith, add-mul g (rest * 128) scale, mul_assoc rest 128 scale, mul_comm 128 scale))
 
+-- 0 for a number, 1 for a refusal: so that the two are not equal
+abbrev is_refused : Found → ℕ
+is_refused (Number v next) = 0
+is_refused Ended = 1
+is_refused (Malformed place) = 1
+
 -- a choice that is a number is so by its test, where the other way is a refusal
-number_taken : (t : Bool) (x y : Found) (w next : ℕ) → 0 < refusal_of [] y → pick t x y ≡ Number w next → (t ≡ true) × (x ≡ Number w next)
+number_taken : (t : Bool) (x y : Found) (w next : ℕ) → 0 < is_refused y → pick t x y ≡ Number w next → (t ≡ true) × (x ≡ Number w next)
 unfolding pick
 number_taken true x y w next h e = (refl, e)
-number_taken false x y w next h e = absurd (omega (arith, ap (refusal_of []) e))
+number_taken false x y w next h e = absurd (omega (arith, ap is_refused e))
 
 same_number : (v i w next : ℕ) → Number v i ≡ Number w next → (w ≡ v) × (next ≡ i)
 same_number v i w next e = ((cc), (cc))
 
 -- the number w from `first` to `next`, with `behind` after it
 module _ (bytes behind : List ℕ) (first w next : ℕ) where
-  -- n, whose lowest group is at `at` and counts `scale`, makes w with the groups before it, which make v. Shortest form: it is zero only where it is the whole number
+  -- n, whose lowest group is at `at` and counts `scale`, makes w with the groups before it, which make v. Shortest
+  -- form: it is zero only where it is the whole number
   record Makes (at v scale n : ℕ) : Type 0 where
     counts : w ≡ v + n * scale
     below : w < 2 ^ 32
@@ -129,7 +137,7 @@ module _ (bytes behind : List ℕ) (first w next : ℕ) where
   stands_if_read : ((i : ℕ) → get_or bytes i 0 < 256) → behind ≡ drop next bytes → (left at v scale : ℕ) → first ≤ at → (at ≡ first → v ≡ 0)
       → groups_of left bytes first at v scale ≡ Number w next → (n : ℕ) × Stands left at v scale n
   unfolding groups_of
-  stands_if_read byte d zero at v scale l z e = absurd (omega (arith, ap (refusal_of []) e))
+  stands_if_read byte d zero at v scale l z e = absurd (omega (arith, ap is_refused e))
   stands_if_read byte d (suc left) at v scale l z e =
       let b : ℕ = get_or bytes at 0 in
       let t = number_taken (ltb at (length bytes)) _ _ w next (lit< tt) e in
@@ -142,18 +150,35 @@ module _ (bytes behind : List ℕ) (first w next : ℕ) where
       (either (ltb b CONTINUES) _ _ _ t.1)
 
 -- a number has one to five bytes
+groups_some : (left n : ℕ) → 0 < length (encode_from (suc left) n)
+unfolding encode_from
+groups_some left n = both_ways (λ (l : List ℕ). 0 < length l) (ltb n CONTINUES) _ _ (lit< tt) (omega arith)
+
 pub encode_some : (n : ℕ) → 0 < length (encode_of n)
-unfolding encode_of encode_from
-encode_some n = both (λ (l : List ℕ). 0 < length l) (ltb n CONTINUES) _ _ (lit< tt) (omega arith)
+unfolding encode_of
+encode_some = groups_some (GROUPS - 1)
 
 groups_at_most : (left n : ℕ) → length (encode_from left n) ≤ left
 unfolding encode_from
 groups_at_most zero n = lit≤ tt
-groups_at_most (suc left) n = both (λ (l : List ℕ). length l ≤ suc left) (ltb n CONTINUES) _ _ (omega arith) (omega (arith, groups_at_most left (n / 128)))
+groups_at_most (suc left) n = both_ways (λ (l : List ℕ). length l ≤ suc left) (ltb n CONTINUES) _ _ (omega arith) (omega (arith, groups_at_most left (n / 128)))
 
 pub encode_at_most : (n : ℕ) → length (encode_of n) ≤ GROUPS
 unfolding encode_of
 encode_at_most = groups_at_most GROUPS
+
+-- and no more bytes than a greater number
+groups_grow : (left n m : ℕ) → n ≤ m → length (encode_from left n) ≤ length (encode_from left m)
+unfolding encode_from
+groups_grow zero n m h = lit≤ tt
+groups_grow (suc left) n m h =
+    if_less (λ (l : List ℕ). length l ≤ length (encode_from (suc left) m)) n CONTINUES _ _ (λ x. groups_some left m) λ x.
+    if_less (λ (l : List ℕ). suc (length (encode_from left (n / 128))) ≤ length l) m CONTINUES _ _ (omega arith) λ y.
+    omega (arith, groups_grow left (n / 128) (m / 128) (omega arith))
+
+pub encode_grows : (n m : ℕ) → n ≤ m → length (encode_of n) ≤ length (encode_of m)
+unfolding encode_of
+encode_grows = groups_grow GROUPS
 
 -- where the bytes of a number stand, it is read
 pub read_standing : (bytes behind : List ℕ) (first n : ℕ) → n < 2 ^ 32 → drop first bytes ≡ encode_of n ++ behind

@@ -1,4 +1,5 @@
--- 01, "The packet": every number is in groups of seven bits, lowest group first, top bit set on all but the last byte; shortest form, at most five bytes, below 2 ^ 32.
+-- 01, "The packet": every number is in groups of seven bits, lowest group first, top bit set on all but the last byte;
+-- shortest form, at most five bytes, below 2 ^ 32.
 use Rattle.std.specs.Prelude.{ℕ, zero, suc, ◌+◌, ◌-◌, ◌*◌, ◌%◌, ◌^◌, List, length, get_or, ltb, eqb}
 use Rattle.choice.specs.Pick.{pick}
 use Rattle.number.specs.declared.Found.{Found}
@@ -35,14 +36,3 @@ groups_of (suc left) bytes first at v scale =
 -- the number that begins at a place
 abbrev pub read_of : List ℕ → ℕ → Found
 read_of bytes first = groups_of GROUPS bytes first first 0 1
-
--- 01's refusals: 1 at the packet's length, 2 at its place; 0 where there is a number
-abbrev pub refusal_of : List ℕ → Found → ℕ
-refusal_of bytes (Number v next) = 0
-refusal_of bytes Ended = 1
-refusal_of bytes (Malformed place) = 2
-
-abbrev pub place_of : List ℕ → Found → ℕ
-place_of bytes (Number v next) = 0
-place_of bytes Ended = length bytes
-place_of bytes (Malformed place) = place

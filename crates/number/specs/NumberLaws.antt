@@ -6,7 +6,7 @@ use native.Mathlib.Omega.{arith}
 use Rattle.std.proofs.Math.Path.{refl, sym, ap}
 use Rattle.std.proofs.Math.Arith.{digits_lt}
 use Rattle.std.specs.Int.{w64}
-use Rattle.choice.specs.Pick.{is_less, not_less, is_equal, not_equal, both, each_way}
+use Rattle.choice.specs.Pick.{is_less, not_less, is_equal, not_equal, both_ways, each_way}
 use Rattle.number.specs.declared.Found.{Found}
 use Rattle.number.specs.declared.Found.TheVariants.{Number, Ended, Malformed}
 use Rattle.number.specs.Number.{GROUPS, CONTINUES, malformed_of, last_of, groups_of, read_of}
@@ -111,9 +111,9 @@ placed_later at end (Malformed place) p = p
 last_placed : (v scale b first at : ℕ) (bytes : List ℕ) → first ≤ length bytes → at < length bytes → Placed at (length bytes) (last_of v scale b first at)
 unfolding Placed last_of
 last_placed v scale b first at bytes f h =
-    both (Placed at (length bytes)) (eqb b 0) _ _
-    (both (Placed at (length bytes)) (eqb at first) _ _ (omega arith) f)
-    (both (Placed at (length bytes)) (ltb (v + b * scale) (2 ^ 32)) _ _ (omega arith) f)
+    both_ways (Placed at (length bytes)) (eqb b 0) _ _
+    (both_ways (Placed at (length bytes)) (eqb at first) _ _ (omega arith) f)
+    (both_ways (Placed at (length bytes)) (ltb (v + b * scale) (2 ^ 32)) _ _ (omega arith) f)
 
 groups_placed : (left : ℕ) (bytes : List ℕ) (first at v scale : ℕ) → first ≤ length bytes → Placed at (length bytes) (groups_of left bytes first at v scale)
 unfolding Placed groups_of
@@ -121,7 +121,7 @@ groups_placed zero bytes first at v scale f = f
 groups_placed (suc left) bytes first at v scale f =
     each_way (Placed at (length bytes)) (ltb at (length bytes)) _ _
     (λ h.
-    both (Placed at (length bytes)) (ltb (get_or bytes at 0) CONTINUES) _ _
+    both_ways (Placed at (length bytes)) (ltb (get_or bytes at 0) CONTINUES) _ _
     (last_placed v scale (get_or bytes at 0) first at bytes f (ltb-true at (length bytes) h))
     (placed_later at (length bytes) (groups_of left bytes first (at + 1) (v + get_or bytes at 0 % 128 * scale) (scale * 128)) (groups_placed left bytes first (at + 1) (v + get_or bytes at 0 % 128 * scale) (scale * 128) f)))
     (λ h. tt)

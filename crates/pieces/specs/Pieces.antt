@@ -1,4 +1,5 @@
--- 01, "Bench pieces": K1 to K12 as one table under one statement. `Holds` says what a piece claims, of the same definitions that the contracts name; `pieces` is the table, in 01's order; each piece holds by computation.
+-- 01, "Bench pieces": K1 to K12 as one table under one statement. `PieceHolds` says what a piece claims, of the same
+-- definitions that the contracts name; `pieces` is the table, in 01's order; each piece holds by computation.
 use Rattle.std.specs.Prelude.{ℕ, ◌+◌, ◌-◌, ◌≡◌, refl, Bool, true, false, set, take, drop, replicate}
 use mathlib.Core.List.{List, [], ◌∷◌, ◌++◌, flat_map}
 use Rattle.choice.specs.Pick.{pick}
@@ -6,25 +7,25 @@ use Rattle.levels.specs.Sets as levels
 use Rattle.machine.specs.Numbers.{CODE_WORDS, HEAP_WORDS, BUDGET, HALTED, RUNNING}
 use Rattle.machine.specs.Arithmetic.{signed_of, slt_of, extend_of, compute_of}
 use Rattle.machine.specs.Word.{whole, kind_at}
-use Rattle.machine.specs.Step.{machine_at, read_of, write_of, does_of, act_of, step_of}
+use Rattle.machine.specs.Step.{machine_at, read_register, write_register, does_of, act_of, step_of}
 use Rattle.machine.specs.Run.{after, acted_of, acted, outcome_at, outcome_from, refusal_of, run_of}
 use Rattle.number.specs.Number.{last_of, groups_of}
 use Rattle.number.specs.Encode.{encode_from, encode_of}
 use Rattle.listing.specs.declared.items.Item.{Item}
 use Rattle.listing.specs.declared.items.Item.TheVariants.{Halt, Jmp, Bnz, Load, ComputeImmediate, Cpush, Cjmp, Label}
 use Rattle.listing.specs.Listing.{Register, LabelContext, Listing, Each, counted, field_numbers, register_numbers, label_numbers, item_numbers, numbers_of}
-use Rattle.listing.specs.Grammar.{within_of, below_of, shapes_from, fields_from, labels_from, stack_from, registers_from, items_from, operands_from, next_of}
+use Rattle.listing.specs.Grammar.{within_of, below_end, shapes_from, fields_from, labels_from, stack_from, registers_from, items_from, operands_from, next_of}
 use Rattle.listing.specs.Packet.{due_then, found_then, numbers_then, numbers_from, numbers_in, taken_then, taken_from, taken_of, end_of}
-use Rattle.listing.specs.Parts.{parts_from, behind, count_of, item_of, size_of, labels_place, items_place, shapes_in, labels_in, items_in}
-use Rattle.listing.specs.Bytes.{bytes_of, packet_bytes}
+use Rattle.listing.specs.Parts.{parts_from, behind, count_of, item_of, item_size, labels_place, items_place, shapes_in, labels_in, items_in}
+use Rattle.listing.specs.Bytes.{encode_all, packet_bytes}
 use Rattle.rules.specs.Context.{no_registers, with_listed, met_of, same_of}
 use Rattle.rules.specs.Rules.{first_failing, row_of, after_of}
 use Rattle.checker.specs.declared.packets.Checked.{Checked}
 use Rattle.checker.specs.declared.packets.Checked.TheVariants.{Accepted, Refused}
-use Rattle.checker.specs.Walk.{is_label, label_in, block_after, due_row, all_from, is_open, or_else, enter_row, premises_of, walk_from, walk_of}
+use Rattle.checker.specs.Walk.{is_label, label_in, block_after, due_row, all_from, is_open, refused_or, enter_row, premises_of, walk_from, walk_of}
 use Rattle.checker.specs.Check.{judged_of, checked_by, check_of}
-use Rattle.eraser.specs.Erase.{kept_in, count_behind, pass_from, entered, no_addresses, addresses_of, word_for, code_of}
-use Rattle.service.specs.Desk.{code_for}
+use Rattle.eraser.specs.Erase.{kept_in, count_behind, pass_from, address_entered, no_addresses, addresses_of, word_for, code_of}
+use Rattle.desk.specs.Desk.{code_for}
 
 -- what a bench piece may claim
 pub data Piece : Type 0 where
@@ -45,15 +46,15 @@ pub data Piece : Type 0 where
   stepped : (i : Item) (before after : List ℕ) → Piece
 
 -- that a piece's claim is so
-unfoldable pub Holds : Piece → Type 0
-Holds (packed l packet) = packet_bytes l ≡ packet
-Holds (checked packet answer) = check_of packet ≡ answer
-Holds (erased packet code) = code_for (numbers_in packet) ≡ code
-Holds (halted packet budget before after pc count) = run_of (code_for (numbers_in packet)) [] before budget ≡ outcome_at (machine_at after pc HALTED []) count
-Holds (ordered a b is) = levels.below_of a b ≡ is
-Holds (joined a b level) = levels.join_of a b ≡ level
-Holds (computed op a b word) = compute_of op a b ≡ word
-Holds (stepped i before after) = step_of (word_for [] i ∷ []) (machine_at before 0 RUNNING []) ≡ machine_at after 1 RUNNING []
+unfoldable pub PieceHolds : Piece → Type 0
+PieceHolds (packed l packet) = packet_bytes l ≡ packet
+PieceHolds (checked packet answer) = check_of packet ≡ answer
+PieceHolds (erased packet code) = code_for (numbers_in packet) ≡ code
+PieceHolds (halted packet budget before after pc count) = run_of (code_for (numbers_in packet)) [] before budget ≡ outcome_at (machine_at after pc HALTED []) count
+PieceHolds (ordered a b is) = levels.below_of a b ≡ is
+PieceHolds (joined a b level) = levels.join_of a b ≡ level
+PieceHolds (computed op a b word) = compute_of op a b ≡ word
+PieceHolds (stepped i before after) = step_of (word_for [] i ∷ []) (machine_at before 0 RUNNING []) ≡ machine_at after 1 RUNNING []
 
 -- a register that a label lists, an integer at a level; a label's context; an immediate as the packet has it
 abbrev integer : ℕ → ℕ → Register
@@ -169,16 +170,16 @@ pieces =
     ∷ []
 
 -- each row of the table holds
-pub each_piece_holds : Each Holds pieces
-unfolding Holds pieces flat_map
+pub each_piece_holds : Each PieceHolds pieces
+unfolding PieceHolds pieces flat_map
     pick last_of groups_of encode_from encode_of
-    counted field_numbers register_numbers label_numbers item_numbers numbers_of bytes_of packet_bytes
-    within_of below_of shapes_from fields_from labels_from stack_from registers_from items_from operands_from next_of
+    counted field_numbers register_numbers label_numbers item_numbers numbers_of encode_all packet_bytes
+    within_of below_end shapes_from fields_from labels_from stack_from registers_from items_from operands_from next_of
     due_then found_then numbers_then numbers_from numbers_in taken_then taken_from taken_of end_of
-    parts_from behind count_of item_of size_of labels_place items_place shapes_in labels_in items_in
+    parts_from behind count_of item_of item_size labels_place items_place shapes_in labels_in items_in
     no_registers with_listed met_of same_of first_failing row_of after_of
-    is_label label_in block_after due_row all_from is_open or_else enter_row premises_of walk_from walk_of judged_of checked_by check_of
-    kept_in count_behind pass_from entered no_addresses addresses_of code_of code_for
-    CODE_WORDS HEAP_WORDS BUDGET signed_of slt_of extend_of compute_of whole kind_at read_of write_of does_of act_of step_of
+    is_label label_in block_after due_row all_from is_open refused_or enter_row premises_of walk_from walk_of judged_of checked_by check_of
+    kept_in count_behind pass_from address_entered no_addresses addresses_of code_of code_for
+    CODE_WORDS HEAP_WORDS BUDGET signed_of slt_of extend_of compute_of whole kind_at read_register write_register does_of act_of step_of
     after acted_of acted outcome_from refusal_of run_of
 each_piece_holds = (refl, (refl, (refl, (refl, (refl, (refl, (refl, (refl, (refl, (refl, (refl, (refl, (refl, (refl, (refl, (refl, (refl, (refl, (refl, tt)))))))))))))))))))

@@ -1,4 +1,5 @@
--- Laws for the code that holds contexts: one for each way through it. `slots` holds those for registers, `stacks` those for the stack, `lists` those for a label's lists, read number by number.
+-- Laws for the code that holds contexts: one for each way through it. `slots` holds those for registers, `stacks` those
+-- for the stack, `lists` those for a label's lists, read number by number.
 use Prim.Native.Nat.{ℕ, zero, suc, ◌+◌, ◌-◌, ◌<◌, ◌≤◌}
 use native.Mathlib.Omega.{arith}
 use Rattle.std.specs.Prelude.{◌≡◌, Bool, true, length}
@@ -49,12 +50,12 @@ module _ (cells : List ℕ) (top : ℕ) (whole : length cells ≡ STACK) where
 pub ruleset stacks = (refl, depth_is, depth_none, pushes, pushes_first, has_room)
 
 -- a label's stack against the cells from i on, label by label: `answer` is that for all
-abbrev labels_from : List ℕ → ℕ → ℕ → List ℕ
-labels_from ns = parts_from (number_at ns) (λ p. p + 1)
+abbrev labels_on : List ℕ → ℕ → ℕ → List ℕ
+labels_on ns = parts_from (number_at ns) (λ p. p + 1)
 
-module _ (answer : Bool) (cells ns : List ℕ) (i at left : ℕ) (whole : length cells ≡ STACK) (inv : answer ≡ same_of (drop i cells) (labels_from ns at left)) where
+module _ (answer : Bool) (cells ns : List ℕ) (i at left : ℕ) (whole : length cells ≡ STACK) (inv : answer ≡ same_of (drop i cells) (labels_on ns at left)) where
   -- with a label left, and a cell left or none; and with no label left
-  one_more : 0 < left → answer ≡ same_of (drop i cells) (number_at ns at ∷ labels_from ns (at + 1) (left - 1))
+  one_more : 0 < left → answer ≡ same_of (drop i cells) (number_at ns at ∷ labels_on ns (at + 1) (left - 1))
   one_more h = inv ∙ ap (same_of (drop i cells)) (parts_more (number_at ns) (λ p. p + 1) at left h)
 
   none_left : left ≤ 0 → answer ≡ same_of (drop i cells) []
@@ -66,11 +67,11 @@ module _ (answer : Bool) (cells ns : List ℕ) (i at left : ℕ) (whole : length
   no_cell : STACK ≤ i → drop i cells ≡ []
   no_cell h = drop_of_length-le cells {i = i} (omega arith)
 
-  pub same_turn : (v : ℕ) → 0 < left → i < STACK → v ≡ number_at ns at → get_or cells i 0 ≡ v → answer ≡ same_of (drop (i + 1) cells) (labels_from ns (at + 1) (left - 1))
+  pub same_turn : (v : ℕ) → 0 < left → i < STACK → v ≡ number_at ns at → get_or cells i 0 ≡ v → answer ≡ same_of (drop (i + 1) cells) (labels_on ns (at + 1) (left - 1))
   unfolding same_of
   same_turn v h k q e =
       one_more h
-      ∙ ap (λ (r : List ℕ). same_of r (number_at ns at ∷ labels_from ns (at + 1) (left - 1))) (cell_left k)
+      ∙ ap (λ (r : List ℕ). same_of r (number_at ns at ∷ labels_on ns (at + 1) (left - 1))) (cell_left k)
       ∙ sym (is_equal (get_or cells i 0) (number_at ns at) _ _ false (e ∙ q) refl)
 
   pub same_differs : (v : ℕ) → 0 < left → i < STACK → v ≡ number_at ns at → (get_or cells i 0 ≡ v → ⊥) → false ≡ answer
@@ -78,12 +79,12 @@ module _ (answer : Bool) (cells ns : List ℕ) (i at left : ℕ) (whole : length
   same_differs v h k q e =
       sym
       (one_more h
-      ∙ ap (λ (r : List ℕ). same_of r (number_at ns at ∷ labels_from ns (at + 1) (left - 1))) (cell_left k)
+      ∙ ap (λ (r : List ℕ). same_of r (number_at ns at ∷ labels_on ns (at + 1) (left - 1))) (cell_left k)
       ∙ sym (not_equal (get_or cells i 0) (number_at ns at) _ _ _ (λ d. e (d ∙ sym q)) refl))
 
   pub same_short : 0 < left → STACK ≤ i → false ≡ answer
   unfolding same_of
-  same_short h k = sym (one_more h ∙ ap (λ (r : List ℕ). same_of r (number_at ns at ∷ labels_from ns (at + 1) (left - 1))) (no_cell k))
+  same_short h k = sym (one_more h ∙ ap (λ (r : List ℕ). same_of r (number_at ns at ∷ labels_on ns (at + 1) (left - 1))) (no_cell k))
 
   pub same_long : left ≤ 0 → i < STACK → false ≡ answer
   unfolding same_of
@@ -115,39 +116,39 @@ module _ (cells below : List ℕ) (top l : ℕ) (whole : length cells ≡ STACK)
 pub ruleset belows = (refl, below_top, other_top, no_top)
 
 -- a label's stack, pushed from its last label up: those from `left` on are pushed
-module _ (pushed ns : List ℕ) (at left n : ℕ) (inv : pushed ≡ labels_from ns (at + left) (count_of STACK n - left)) (within : left ≤ count_of STACK n) where
+module _ (pushed ns : List ℕ) (at left n : ℕ) (inv : pushed ≡ labels_on ns (at + left) (count_of STACK n - left)) (within : left ≤ count_of STACK n) where
   abbrev count : ℕ
   count = count_of STACK n
 
   pub stack_room : 0 < left → length pushed < STACK
   stack_room h = omega (arith, ap length inv, count_within STACK n, parts_length (number_at ns) (λ p. p + 1) (at + left) (count - left))
 
-  pub stack_turn : (after : List ℕ) (l : ℕ) → 0 < left → l ≡ number_at ns (at + (left - 1)) → after ≡ l ∷ pushed → after ≡ labels_from ns (at + (left - 1)) (count - (left - 1))
+  pub stack_turn : (after : List ℕ) (l : ℕ) → 0 < left → l ≡ number_at ns (at + (left - 1)) → after ≡ l ∷ pushed → after ≡ labels_on ns (at + (left - 1)) (count - (left - 1))
   stack_turn after l h p e =
       let behind : at + (left - 1) + 1 ≡ at + left = omega arith in
       let fewer : count - (left - 1) - 1 ≡ count - left = omega arith in
       e
-      ∙ (λ i. p i ∷ (inv ∙ (λ j. labels_from ns (sym behind j) (sym fewer j))) i)
+      ∙ (λ i. p i ∷ (inv ∙ (λ j. labels_on ns (sym behind j) (sym fewer j))) i)
       ∙ sym (parts_more (number_at ns) (λ p. p + 1) (at + (left - 1)) (count - (left - 1)) (omega arith))
 
   pub stack_written : (cells : List ℕ) (top l : ℕ) → pushed ≡ drop top cells → length cells ≡ STACK → top + (count - left) ≡ STACK → 0 < left → l ≡ number_at ns (at + (left - 1))
-      → drop (top - 1) (set cells (top - 1) l) ≡ labels_from ns (at + (left - 1)) (count - (left - 1))
+      → drop (top - 1) (set cells (top - 1) l) ≡ labels_on ns (at + (left - 1)) (count - (left - 1))
   stack_written cells top l p w s h q =
       let room : 0 < top = omega (arith, count_within STACK n) in
       let back : suc (top - 1) ≡ top = omega arith in
       stack_turn _ l h q (push_at cells l (top - 1) (omega arith) ∙ ap (λ (m : ℕ). l ∷ drop m cells) back ∙ ap (λ (r : List ℕ). l ∷ r) (sym p))
 
-  pub stack_all : left ≤ 0 → pushed ≡ labels_from ns at count
+  pub stack_all : left ≤ 0 → pushed ≡ labels_on ns at count
   stack_all h =
       let none : at + left ≡ at = omega arith in
       let all : count - left ≡ count = omega arith in
-      inv ∙ (λ i. labels_from ns (none i) (all i))
+      inv ∙ (λ i. labels_on ns (none i) (all i))
 
 module _ (ns : List ℕ) (at left v p : ℕ) (held : left ≡ count_of STACK v) (read : v ≡ number_at ns p) where
   all_left : left ≡ count_of STACK (number_at ns p)
   all_left = held ∙ ap (count_of STACK) read
 
-  pub stack_none : (pushed : List ℕ) → pushed ≡ [] → pushed ≡ labels_from ns at (count_of STACK (number_at ns p) - left)
+  pub stack_none : (pushed : List ℕ) → pushed ≡ [] → pushed ≡ labels_on ns at (count_of STACK (number_at ns p) - left)
   stack_none pushed e = e ∙ sym (parts_none (number_at ns) (λ q. q + 1) at (count_of STACK (number_at ns p) - left) (omega (arith, all_left)))
 
   pub all_cells_left : STACK + (count_of STACK (number_at ns p) - left) ≡ STACK
@@ -165,18 +166,18 @@ pub ruleset pushings = (refl, count_within, stack_room, stack_turn, stack_writte
 pub ruleset sames = (refl, same_turn, same_differs, same_short, same_long, same_all)
 
 -- a label's registers from a place on: whether all are met, and the registers with them put in
-abbrev registers_from : List ℕ → ℕ → ℕ → List Register
-registers_from ns = parts_from (register_at ns) (λ p. p + 3)
+abbrev registers_on : List ℕ → ℕ → ℕ → List Register
+registers_on ns = parts_from (register_at ns) (λ p. p + 3)
 
 module _ (registers : List Slot) (ns : List ℕ) (at left : ℕ) where
-  next_register : 0 < left → registers_from ns at left ≡ register_at ns at ∷ registers_from ns (at + 3) (left - 1)
+  next_register : 0 < left → registers_on ns at left ≡ register_at ns at ∷ registers_on ns (at + 3) (left - 1)
   next_register = parts_more (register_at ns) (λ p. p + 3) at left
 
-  no_register : left ≤ 0 → registers_from ns at left ≡ []
+  no_register : left ≤ 0 → registers_on ns at left ≡ []
   no_register = parts_none (register_at ns) (λ p. p + 3) at left
 
-  module _ (answer : Bool) (inv : answer ≡ met_of registers (registers_from ns at left)) where
-    pub met_turn : (b : Bool) → 0 < left → b ≡ meets registers (register_at ns at) → b ≡ true → answer ≡ met_of registers (registers_from ns (at + 3) (left - 1))
+  module _ (answer : Bool) (inv : answer ≡ met_of registers (registers_on ns at left)) where
+    pub met_turn : (b : Bool) → 0 < left → b ≡ meets registers (register_at ns at) → b ≡ true → answer ≡ met_of registers (registers_on ns (at + 3) (left - 1))
     unfolding met_of
     met_turn b h e p = inv ∙ ap (met_of registers) (next_register h) ∙ sym (is_true _ _ _ false (sym e ∙ p) refl)
 
@@ -188,16 +189,16 @@ module _ (registers : List Slot) (ns : List ℕ) (at left : ℕ) where
     unfolding met_of
     met_all h = sym (inv ∙ ap (met_of registers) (no_register h))
 
-  module _ (answer : List Slot) (inv : answer ≡ with_listed registers (registers_from ns at left)) where
+  module _ (answer : List Slot) (inv : answer ≡ with_listed registers (registers_on ns at left)) where
     pub listed_turn : (after : List Slot) (s : Slot) (r : ℕ) → 0 < left → s ≡ slot_of (register_at ns at) → r ≡ number_at ns at → after ≡ set registers r s
-        → answer ≡ with_listed after (registers_from ns (at + 3) (left - 1))
+        → answer ≡ with_listed after (registers_on ns (at + 3) (left - 1))
     unfolding with_listed
     listed_turn after s r h p q e =
         inv
         ∙ ap (with_listed registers) (next_register h)
-        ∙ ap (λ (x : List Slot). with_listed x (registers_from ns (at + 3) (left - 1))) (sym (e ∙ (λ i. set registers (q i) (p i))))
+        ∙ ap (λ (x : List Slot). with_listed x (registers_on ns (at + 3) (left - 1))) (sym (e ∙ (λ i. set registers (q i) (p i))))
 
-    pub listed_past : (n r : ℕ) → 0 < left → r ≡ number_at ns at → length registers ≡ n → n ≤ r → answer ≡ with_listed registers (registers_from ns (at + 3) (left - 1))
+    pub listed_past : (n r : ℕ) → 0 < left → r ≡ number_at ns at → length registers ≡ n → n ≤ r → answer ≡ with_listed registers (registers_on ns (at + 3) (left - 1))
     listed_past n r h q w past = listed_turn registers _ r h refl q (sym (set_out registers r _ (omega arith)))
 
     pub listed_all : left ≤ 0 → registers ≡ answer

@@ -5,8 +5,11 @@ ghost use Rattle.listing.specs.Parts.{register_at, registers_place, label_at};
 ghost use Rattle.rules.specs.Context.{context_of, slot_at, slot_of, exactly, meets, met_of, same_of, no_registers, with_listed, entered};
 ghost use Rattle.rules.specs.Held.{NEAR, stack_in, context_in};
 
-use listing::limits::{REGISTERS, SHAPES, STACK, TOP_LEVEL};
+use listing::limits::{ALL_REGISTERS, REGISTERS, SHAPES, STACK, TOP_LEVEL};
 use listing::{at_most, number_at};
+
+// The cells of a stack.
+pub const CELLS: usize = STACK as usize;
 
 // What a context says of a register: whether it is listed, and then its kind and level.
 #[derive(Drop)]
@@ -16,11 +19,11 @@ pub struct Slot {
     pub level: u8,
 }
 
-// A stack of labels: those from `top` on, the top one first.
+// A stack of labels: those from `top` on, the top one first, as a label's stack stands in the packet.
 #[derive(Drop)]
 pub struct Stack {
     pub top: usize,
-    pub cells: [u32; 16],
+    pub cells: [u32; CELLS],
 }
 
 // The context.
@@ -28,15 +31,15 @@ pub struct Stack {
 pub struct Held {
     pub level: u32,
     pub stack: Stack,
-    pub registers: [Slot; 16],
+    pub registers: [Slot; ALL_REGISTERS],
 }
 
 // What is said of a register.
-pub fn slot_at(registers: [Slot; 16], r: u32) -> Slot
+pub fn slot_at(registers: [Slot; ALL_REGISTERS], r: u32) -> Slot
     ensures { result ≡ slot_at registers r }
 {
     let i = r as usize;
-    if i < 16 {
+    if i < ALL_REGISTERS {
         registers[i]
     } else {
         Slot {
@@ -48,12 +51,12 @@ pub fn slot_at(registers: [Slot; 16], r: u32) -> Slot
 }
 
 // The registers with one said anew.
-pub fn with_slot(registers: [Slot; 16], r: u32, s: Slot) -> [Slot; 16]
+pub fn with_slot(registers: [Slot; ALL_REGISTERS], r: u32, s: Slot) -> [Slot; ALL_REGISTERS]
     ensures { result ≡ set registers r s }
 {
     let i = r as usize;
     let mut after = registers;
-    if i < 16 {
+    if i < ALL_REGISTERS {
         after[i] = s;
         return after;
     }
@@ -83,7 +86,7 @@ fn registers_place(numbers: &[u32], place: u32) -> usize
 }
 
 // Whether the register listed at a place is listed now with equal kind and level.
-fn is_met(registers: [Slot; 16], numbers: &[u32], at: usize) -> bool
+fn is_met(registers: [Slot; ALL_REGISTERS], numbers: &[u32], at: usize) -> bool
     requires { at < NEAR }
     ensures { result ≡ meets registers (register_at numbers.now at) }
 {
@@ -95,7 +98,7 @@ fn is_met(registers: [Slot; 16], numbers: &[u32], at: usize) -> bool
 }
 
 // Whether each register that a label lists is listed now with equal kind and level.
-pub fn met(registers: [Slot; 16], numbers: &[u32], place: u32) -> bool
+pub fn met(registers: [Slot; ALL_REGISTERS], numbers: &[u32], place: u32) -> bool
     ensures { result ≡ met_of registers (label_at numbers.now place).registers }
 {
     let count = registers_place(numbers, place);
@@ -125,14 +128,14 @@ fn listed_slot(numbers: &[u32], at: usize) -> Slot
 }
 
 // r0 alone.
-fn no_registers() -> [Slot; 16]
+fn no_registers() -> [Slot; ALL_REGISTERS]
     ensures { result ≡ no_registers }
 {
     let mut registers = [Slot {
         listed: false,
         kind: 0,
         level: 0,
-    }; 16];
+    }; ALL_REGISTERS];
     registers[0] = Slot {
         listed: true,
         kind: 0,
@@ -142,7 +145,7 @@ fn no_registers() -> [Slot; 16]
 }
 
 // The registers that a label lists, and r0.
-fn label_registers(numbers: &[u32], place: u32) -> [Slot; 16]
+fn label_registers(numbers: &[u32], place: u32) -> [Slot; ALL_REGISTERS]
     ensures { result ≡ with_listed no_registers (label_at numbers.now place).registers }
 {
     let count = registers_place(numbers, place);
@@ -151,7 +154,7 @@ fn label_registers(numbers: &[u32], place: u32) -> [Slot; 16]
     let mut registers = no_registers();
     while 0 < left {
         let i = number_at(numbers, at) as usize;
-        if i < 16 {
+        if i < ALL_REGISTERS {
             registers[i] = listed_slot(numbers, at);
             at += 3;
             left -= 1;
@@ -168,7 +171,7 @@ pub fn depth(s: Stack) -> usize
     ensures { result ≡ length (stack_in s) }
 {
     let top = s.top;
-    if top < 16 { 16 - top } else { 0 }
+    if top < CELLS { CELLS - top } else { 0 }
 }
 
 // How many labels are on a label's stack.
@@ -179,7 +182,7 @@ pub fn label_depth(numbers: &[u32], place: u32) -> u32
 }
 
 // Whether the labels from a cell on are those of a label's stack.
-fn same_from(cells: [u32; 16], from: usize, numbers: &[u32], place: u32) -> bool
+fn same_from(cells: [u32; CELLS], from: usize, numbers: &[u32], place: u32) -> bool
     ensures { result ≡ same_of (drop from cells) (label_at numbers.now place).stack }
 {
     let first = place as usize;
@@ -187,7 +190,7 @@ fn same_from(cells: [u32; 16], from: usize, numbers: &[u32], place: u32) -> bool
     let mut at = first + 2;
     let mut i = from;
     while 0 < left {
-        if i < 16 {
+        if i < CELLS {
             if cells[i] == number_at(numbers, at) {
                 at += 1;
                 i += 1;
@@ -199,7 +202,7 @@ fn same_from(cells: [u32; 16], from: usize, numbers: &[u32], place: u32) -> bool
             return false;
         }
     }
-    if i < 16 {
+    if i < CELLS {
         return false;
     }
     true
@@ -219,7 +222,7 @@ pub fn same_below(s: Stack, l: u32, numbers: &[u32], place: u32) -> bool
 {
     let cells = s.cells;
     let top = s.top;
-    if top < 16 {
+    if top < CELLS {
         if cells[top] == l {
             return same_from(cells, top + 1, numbers, place);
         }
@@ -234,8 +237,8 @@ fn label_stack(numbers: &[u32], place: u32) -> Stack
 {
     let first = place as usize;
     let mut left = at_most(STACK, number_at(numbers, first + 1)) as usize;
-    let mut top = 16;
-    let mut cells = [0; 16];
+    let mut top = CELLS;
+    let mut cells = [0; CELLS];
     while 0 < left {
         left -= 1;
         top -= 1;
@@ -262,8 +265,8 @@ pub fn nothing() -> Held
     Held {
         level: 0,
         stack: Stack {
-            top: 16,
-            cells: [0; 16],
+            top: CELLS,
+            cells: [0; CELLS],
         },
         registers: no_registers(),
     }

@@ -5,6 +5,6 @@ pub mod numbers;
 mod rules;
 
 pub use contexts::{
-    Held, Slot, Stack, depth, enter, is_exactly, label_depth, nothing, slot_at, with_slot,
+    CELLS, Held, Slot, Stack, depth, enter, is_exactly, label_depth, nothing, slot_at, with_slot,
 };
 pub use rules::{bnz, cjmp, compute, compute_immediate, cpush, halt, jump, load, store, unless};

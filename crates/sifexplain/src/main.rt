@@ -23,8 +23,8 @@ use crate::items::explain_item;
 use crate::stands::counted;
 use checker::Checked;
 use intake::{answer, packet_room};
-use lines::numbers_room;
 use listing::limits::TOO_LONG;
+use listing::longest_room;
 
 // The reader's refusals have numbers up to 6, and bytes as places; the checker's have items.
 fn explain_refusal(packet: &[u8], numbers: &[u32], number: u8, place: u32) {
@@ -36,7 +36,7 @@ fn explain_refusal(packet: &[u8], numbers: &[u32], number: u8, place: u32) {
 }
 
 fn explain(packet: &[u8]) {
-    let mut room = numbers_room();
+    let mut room = longest_room();
     match checker::check(packet, &mut room) {
         Checked::Accepted(_) => (),
         Checked::Refused(number, place) => explain_refusal(packet, &room, number, counted(place)),

@@ -1,8 +1,6 @@
 // Where items, labels and shapes stand among a listing's numbers.
 use listing::limits::{BYTES, ITEMS, LABELS, TOP_ITEM};
-use listing::{
-    behind_item, behind_label, behind_shape, count_at, items_place, labels_place, number_at,
-};
+use listing::{count_at, item_size, items_place, label_size, labels_place, number_at, shape_size};
 
 // The parts of a listing of which there are many, one behind the other.
 #[derive(Drop)]
@@ -18,9 +16,9 @@ pub(crate) fn behind(numbers: &[u32], row: Row, at: u32) -> u32 {
         return at;
     }
     match row {
-        Row::Shapes => behind_shape(numbers, at),
-        Row::Labels => behind_label(numbers, at),
-        Row::Items => behind_item(numbers, at),
+        Row::Shapes => at + shape_size(numbers, at),
+        Row::Labels => at + label_size(numbers, at),
+        Row::Items => at + item_size(numbers, at),
     }
 }
 

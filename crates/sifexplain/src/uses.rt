@@ -1,4 +1,4 @@
-// What an item names, in the parts that the rules give it.
+// What an item names, in the parts that the rules give it, so that a rule is worded once and not for each item.
 use listing::number_at;
 
 // Where something shows that an item does: in a register; in the field of a shape, written or reached through a

@@ -4,7 +4,7 @@ use crate::places::{Row, behind, label_place, shape_of, shape_place};
 use crate::uses::{BLOCK, PUSHED, REACHED, REGISTER, Uses, WRITTEN, uses_at};
 use checker::{changed, field_kind, raised};
 use listing::items_place;
-use rules::{Held, Stack, enter, nothing, slot_at};
+use rules::{CELLS, Held, Stack, enter, nothing, slot_at};
 
 // The context with a label on top of its stack; a full stack, which is refused before, stays.
 fn pushed(c: Held, l: u32) -> Held {
@@ -13,7 +13,7 @@ fn pushed(c: Held, l: u32) -> Held {
     let mut cells = stack.cells;
     let top = stack.top;
     if 0 < top {
-        if top < 17 {
+        if top <= CELLS {
             cells[top - 1] = l;
             return Held {
                 level: c.level,

@@ -1,4 +1,5 @@
--- The address of a place is the count of kept items before it. There the code has the word of a kept item, and the item's place is found again; a label's address is that of its target.
+-- The address of a place is the count of kept items before it. There the code has the word of a kept item, and the
+-- item's place is found again; a label's address is that of its target.
 use Rattle.std.specs.Prelude.{ℕ, zero, suc, ◌+◌, ◌^◌, ◌<◌, ◌≤◌, ◌≡◌, refl, Bool, true, false, List, [], ◌∷◌, ◌++◌, length, get_or, take, drop, eqb}
 use Rattle.std.proofs.Common.{zero-add, add-one, arith, sym, ap, subst, ◌∙◌, take-append-drop, take-suc, eq-eqb, ne_eqb}
 use Rattle.std.proofs.Math.Seq.{split_at}
@@ -16,7 +17,7 @@ use Rattle.eraser.specs.PassLaws.{needed_more, code_length}
 use Rattle.eraser.specs.ItemLaws.{needed_append, needed_first}
 use Rattle.eraser.specs.Theorems.{code_word, address_is_count, needed_fits, addresses_fit}
 use Rattle.sound.specs.Contexts.{now_at}
-use Rattle.sound.specs.Items.{item_at}
+use Rattle.sound.specs.Items.{nth_item}
 use Rattle.sound.specs.Labels.{target_in, once_splits}
 use Rattle.sound.specs.ContextLaws.{typed_at, target_now, open_goes_on}
 use Rattle.sound.specs.Halting.{place_from, place_of, halt_context}
@@ -32,16 +33,16 @@ needed_none = refl
 
 module _ (items : List Item) (p : ℕ) (h : p < length items) where
   -- behind an item it is one more, where the item is kept
-  pub address_behind : address_of items (p + 1) ≡ count_behind (item_at items p) (address_of items p)
+  pub address_behind : address_of items (p + 1) ≡ count_behind (nth_item items p) (address_of items p)
   address_behind =
       ap needed_of (ap (λ (n : ℕ). take n items) (add-one p) ∙ take-suc items p Halt h)
-      ∙ needed_append (take p items) (item_at items p ∷ [])
-      ∙ omega (arith, needed_more (item_at items p) [] (address_of items p), needed_none)
+      ∙ needed_append (take p items) (nth_item items p ∷ [])
+      ∙ omega (arith, needed_more (nth_item items p) [] (address_of items p), needed_none)
 
-  module _ (kept : kept_of (item_at items p) ≡ true) where
+  module _ (kept : kept_of (nth_item items p) ≡ true) where
     -- the word of a kept item stands at its address, which lies in the code
-    pub word_at : (addresses : List ℕ) → get_or (code_of addresses items) (address_of items p) 0 ≡ word_for addresses (item_at items p)
-    word_at addresses = code_word addresses items (take p items) (drop (suc p) items) (item_at items p) (split_at items p Halt h) kept
+    pub word_at : (addresses : List ℕ) → get_or (code_of addresses items) (address_of items p) 0 ≡ word_for addresses (nth_item items p)
+    word_at addresses = code_word addresses items (take p items) (drop (suc p) items) (nth_item items p) (split_at items p Halt h) kept
 
     pub address_within : (addresses : List ℕ) → address_of items p < length (code_of addresses items)
     address_within addresses =
@@ -49,8 +50,8 @@ module _ (items : List Item) (p : ℕ) (h : p < length items) where
           arith,
           code_length addresses items,
           ap needed_of (split_at items p Halt h),
-          needed_append (take p items) (item_at items p ∷ drop (suc p) items),
-          needed_first (item_at items p) (drop (suc p) items) kept,
+          needed_append (take p items) (nth_item items p ∷ drop (suc p) items),
+          needed_first (nth_item items p) (drop (suc p) items) kept,
         )
 
 -- a kept item is found by its address, where so many were kept before: at the front at once, and else behind the front, which is passed
@@ -65,7 +66,7 @@ unfolding pick
 passed true count n = ne_eqb count (count + 1 + n) (λ e. omega arith)
 passed false count n = refl
 
-found_from : (items : List Item) (p count : ℕ) → p < length items → kept_of (item_at items p) ≡ true → place_from items count (count + address_of items p) ≡ p
+found_from : (items : List Item) (p count : ℕ) → p < length items → kept_of (nth_item items p) ≡ true → place_from items count (count + address_of items p) ≡ p
 unfolding place_from count_behind
 found_from [] p count h k = absurd (omega arith)
 found_from (i ∷ items) zero count h k = found_here count i items k
@@ -75,11 +76,11 @@ found_from (i ∷ items) (suc p) count h k =
     ∙ ap suc (found_from items p (count_behind i count) (omega arith) k)
 
 -- the place of a kept item, from its address
-pub place_back : (items : List Item) (p : ℕ) → p < length items → kept_of (item_at items p) ≡ true → place_of items (address_of items p) ≡ p
+pub place_back : (items : List Item) (p : ℕ) → p < length items → kept_of (nth_item items p) ≡ true → place_of items (address_of items p) ≡ p
 place_back items p h k = ap (place_of items) (sym (zero-add _)) ∙ found_from items p 0 h k
 
 -- so the context before it is known by its address
-pub halt_context_at : (◌⊑◌ : ℕ → ℕ → Bool) (◌⊔◌ : ℕ → ℕ → ℕ) (l : Listing) (p : ℕ) → p < length l.items → kept_of (item_at l.items p) ≡ true
+pub halt_context_at : (◌⊑◌ : ℕ → ℕ → Bool) (◌⊔◌ : ℕ → ℕ → ℕ) (l : Listing) (p : ℕ) → p < length l.items → kept_of (nth_item l.items p) ≡ true
     → halt_context ◌⊑◌ ◌⊔◌ l (address_of l.items p) ≡ now_at ◌⊑◌ ◌⊔◌ l.shapes l.labels l.items p
 halt_context_at ◌⊑◌ ◌⊔◌ l p h k = ap (now_at ◌⊑◌ ◌⊔◌ l.shapes l.labels l.items) (place_back l.items p h k)
 

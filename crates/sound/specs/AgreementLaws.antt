@@ -3,12 +3,12 @@ use Rattle.std.specs.Prelude.{ℕ, zero, suc, ◌≡◌, refl, Bool, true, false
 use Rattle.std.proofs.Common.{arith, ◌∙◌, true≢false, inl, inr}
 use Rattle.std.proofs.Math.Path.{sym}
 use Rattle.choice.specs.Pick.{is_true, is_false}
-use Rattle.machine.specs.Step.{read_of}
+use Rattle.machine.specs.Step.{read_register}
 use Rattle.rules.specs.Context.{Context, slot_at}
 use Rattle.sound.specs.Items.{Spot}
-use Rattle.sound.specs.Setting.{Setting, label_in}
+use Rattle.sound.specs.Setting.{Setting, label_context}
 use Rattle.sound.specs.RegisterLaws.{read_r0}
-use Rattle.sound.specs.Agreement.{Sees, Hidden, Agree, Unchanged, strip, Phase, together, apart}
+use Rattle.sound.specs.Agreement.{SeesIn, Hidden, Agree, Unchanged, strip, Phase, together, apart}
 
 holds_or_not : (t : Bool) → (t ≡ true) ⊎ (t ≡ true → ⊥)
 holds_or_not true = inl refl
@@ -19,15 +19,15 @@ not_true true h = absurd (h refl)
 not_true false h = refl
 
 module _ (S : Setting) (o : ℕ) where
-  pub sees_or_not : (l : ℕ) → Sees S o l ⊎ Hidden S o l
+  pub sees_or_not : (l : ℕ) → SeesIn S o l ⊎ Hidden S o l
   sees_or_not l = holds_or_not (S.order.below l o)
 
   module _ (l : ℕ) (Λ : List ℕ) where
-    pub strip_seen : Sees S o (label_in S l).level → strip S o (l ∷ Λ) ≡ l ∷ Λ
+    pub strip_seen : SeesIn S o (label_context S l).level → strip S o (l ∷ Λ) ≡ l ∷ Λ
     unfolding strip
     strip_seen v = sym (is_true _ _ _ _ v refl)
 
-    pub strip_hidden : Hidden S o (label_in S l).level → strip S o (l ∷ Λ) ≡ strip S o Λ
+    pub strip_hidden : Hidden S o (label_context S l).level → strip S o (l ∷ Λ) ≡ strip S o Λ
     unfolding strip
     strip_hidden h = sym (is_false _ _ _ _ (not_true _ h) refl)
 
@@ -43,7 +43,7 @@ module _ (S : Setting) (o : ℕ) where
 
   -- a register that both list at a level that he sees reads the same in both, r0 too
   pub agree_reads : (Γ₁ Γ₂ : Context) (s₁ s₂ : Spot) → Agree S o Γ₁ Γ₂ s₁ s₂ → (r : ℕ) → (slot_at Γ₁.registers r).listed ≡ true → (slot_at Γ₂.registers r).listed ≡ true
-      → Sees S o (slot_at Γ₁.registers r).level → read_of s₁.regs r ≡ read_of s₂.regs r
+      → SeesIn S o (slot_at Γ₁.registers r).level → read_register s₁.regs r ≡ read_register s₂.regs r
   agree_reads Γ₁ Γ₂ s₁ s₂ a zero l₁ l₂ v = read_r0 s₁.regs ∙ sym (read_r0 s₂.regs)
   agree_reads Γ₁ Γ₂ s₁ s₂ a (suc r) l₁ l₂ v = (a.registers (suc r) (omega arith) l₁ l₂).1 v
 

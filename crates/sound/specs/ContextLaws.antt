@@ -1,4 +1,5 @@
--- A well typed listing is typed at each of its places, in the context before it; behind a label this is the label's own context; and a block that is open goes on to a kept item.
+-- A well typed listing is typed at each of its places, in the context before it; behind a label this is the label's own
+-- context; and a block that is open goes on to a kept item.
 use Prim.Native.Nat.{ℕ, zero, suc, ◌<◌}
 use Rattle.std.proofs.Common.{arith, ◌∙◌, drop-cons}
 use Rattle.std.specs.Prelude.{◌≡◌, Bool, true, length, drop}
@@ -15,7 +16,7 @@ use Rattle.eraser.specs.ItemLaws.{needed_first}
 use Rattle.eraser.specs.PassLaws.{needed_more}
 use Rattle.start.specs.Start.{listed_at, listed_first}
 use Rattle.sound.specs.Contexts.{goes_on, now_after, now_from, now_at}
-use Rattle.sound.specs.Items.{item_at}
+use Rattle.sound.specs.Items.{nth_item}
 use Rattle.sound.specs.Labels.{target_in, once_splits}
 
 -- a row of items keeps some where its first is kept, or those behind it keep some
@@ -81,7 +82,7 @@ module _ (◌⊑◌ : ℕ → ℕ → Bool) (◌⊔◌ : ℕ → ℕ → ℕ) (l
 
   -- the same with the item at the place in front
   pub item_typed : (p : ℕ) → p < length l.items
-      → Typed ◌⊑◌ ◌⊔◌ l.shapes l.labels (now_at ◌⊑◌ ◌⊔◌ l.shapes l.labels l.items p) (item_at l.items p ∷ drop (suc p) l.items)
+      → Typed ◌⊑◌ ◌⊔◌ l.shapes l.labels (now_at ◌⊑◌ ◌⊔◌ l.shapes l.labels l.items p) (nth_item l.items p ∷ drop (suc p) l.items)
   item_typed p h = rw (drop-cons l.items p Halt h) at (typed_at p)
 
   -- where a label's target is, its own context holds
@@ -101,6 +102,6 @@ module _ (◌⊑◌ : ℕ → ℕ → Bool) (◌⊔◌ : ℕ → ℕ → ℕ) (l
   listed_by_first = ap (listed_first l.labels) w.begins
 
   -- before a halt there is a context
-  pub halt_now : (p : ℕ) → p < length l.items → item_at l.items p ≡ Halt
+  pub halt_now : (p : ℕ) → p < length l.items → nth_item l.items p ≡ Halt
       → (Γ : Context) × (now_at ◌⊑◌ ◌⊔◌ l.shapes l.labels l.items p ≡ inside Γ)
   halt_now p h e = halt_inside ◌⊑◌ ◌⊔◌ l.shapes l.labels _ _ (rw e at (item_typed p h))

@@ -1,4 +1,5 @@
--- Each item does, in the context in which it is typed, one of the four things of Effects: the one case analysis on the typing rules (`does`). An address that it uses lies in the heap (`needs_met`).
+-- Each item does, in the context in which it is typed, one of the four things of Effects: the one case analysis on the
+-- typing rules (`does`). An address that it uses lies in the heap (`needs_met`).
 use Prim.Native.Nat.{ℕ, ◌+◌, ◌-◌, ◌<◌, ◌≤◌}
 use Rattle.std.proofs.Common.{arith, sym, subst, ◌∙◌}
 use Rattle.std.specs.Prelude.{◌≡◌, true, List, ◌∷◌, length}
@@ -6,7 +7,7 @@ use Rattle.std.proofs.Math.Path.{refl, ap}
 use Rattle.std.proofs.Math.Logic.{inl}
 use Rattle.std.proofs.Math.ListN.{get_or}
 use Rattle.machine.specs.Arithmetic.{compute_of, extend_of}
-use Rattle.machine.specs.Step.{read_of, write_of}
+use Rattle.machine.specs.Step.{read_register, write_register}
 use Rattle.listing.specs.declared.items.Item.{Item}
 use Rattle.listing.specs.Limits.{TOP_PART}
 use Rattle.listing.specs.Listing.{LabelContext, ItemRange}
@@ -18,8 +19,8 @@ use Rattle.start.specs.Meaning.{Holds}
 use Rattle.start.specs.Theorems.{block_fields}
 use Rattle.eraser.specs.Erase.{immediate_of}
 use Rattle.sound.specs.Contexts.{goes_on, now_after}
-use Rattle.sound.specs.Items.{Spot, spot_at, item_at, moves, Needs}
-use Rattle.sound.specs.Setting.{Setting, label_in, now_in, next_in, TypedIn, WellPlaced, Good}
+use Rattle.sound.specs.Items.{Spot, spot_at, nth_item, moves, Needs}
+use Rattle.sound.specs.Setting.{Setting, label_context, now_in, next_in, TypedIn, WellPlaced, Good}
 use Rattle.sound.specs.Agreement.{Flows}
 use Rattle.sound.specs.RegisterLaws.{label_fewer}
 use Rattle.sound.specs.AgreementLaws.{agree_reads}
@@ -40,17 +41,17 @@ module _ (S : Setting) where
 
   module _ (Γ : Context) where
     -- a register is known where its level flows
-    read_known : (r kind lr l : ℕ) → slot_at Γ.registers r ≡ typed kind lr → Flows S lr l → Known S Γ l (λ regs heap. read_of regs r)
+    read_known : (r kind lr l : ℕ) → slot_at Γ.registers r ≡ typed kind lr → Flows S lr l → Known S Γ l (λ regs heap. read_register regs r)
     read_known r kind lr l e f o s₁ s₂ g₁ g₂ a v =
         let listed : (slot_at Γ.registers r).listed ≡ true = ap (λ (x : Slot). x.listed) e in
         agree_reads S o Γ Γ s₁ s₂ a r listed listed (rw (ap (λ (x : Slot). x.level) e) (f o v))
 
     -- a pointer and a field of its shape give a word
     field_address : (r τ lr c kind l : ℕ) → slot_at Γ.registers r ≡ typed τ lr → IsField S.shapes τ c kind l
-        → Address S Γ kind l lr (λ regs heap. read_of regs r + c)
+        → Address S Γ kind l lr (λ regs heap. read_register regs r + c)
     field_address r τ lr c kind l e f = record {
-      word = λ s g. block_fields S.shapes S.rows (read_of s.regs r) (τ - 1) c kind l
-          (subst (λ (k : ℕ). Holds S.rows k (read_of s.regs r)) (ap (λ (x : Slot). x.kind) e) (g.registers r) f.pointer)
+      word = λ s g. block_fields S.shapes S.rows (read_register s.regs r) (τ - 1) c kind l
+          (subst (λ (k : ℕ). Holds S.rows k (read_register s.regs r)) (ap (λ (x : Slot). x.kind) e) (g.registers r) f.pointer)
           f.has
           (λ i. record { kind = f.kind_is i; level = f.level_is i });
       known = λ o s₁ s₂ g₁ g₂ a v. ap (λ (x : ℕ). x + c) (read_known r τ lr lr e (λ o v. v) o s₁ s₂ g₁ g₂ a v);
@@ -61,9 +62,9 @@ module _ (S : Setting) where
     computed l f k = record { holds = λ s g h. absurd (omega arith); known = k }
 
     -- a register holds what its kind says; so does the word at an address
-    read_value : (r kind l : ℕ) → slot_at Γ.registers r ≡ typed kind l → Value S Γ kind l (λ regs heap. read_of regs r)
+    read_value : (r kind l : ℕ) → slot_at Γ.registers r ≡ typed kind l → Value S Γ kind l (λ regs heap. read_register regs r)
     read_value r kind l e = record {
-      holds = λ s g. subst (λ (k : ℕ). Holds S.rows k (read_of s.regs r)) (ap (λ (x : Slot). x.kind) e) (g.registers r);
+      holds = λ s g. subst (λ (k : ℕ). Holds S.rows k (read_register s.regs r)) (ap (λ (x : Slot). x.kind) e) (g.registers r);
       known = read_known r kind l l e (λ o v. v);
     }
 
@@ -76,7 +77,7 @@ module _ (S : Setting) where
     module _ (p : ℕ) where
       -- arithmetic and load: a value that flows into rd is written
       write : (rd kd ld kind l : ℕ) (v : List ℕ → List ℕ → ℕ) → 0 < rd → rd ≤ TOP_PART → slot_at Γ.registers rd ≡ typed kd ld → Value S Γ kind l v → Flows S Γ.level l → Flows S l ld
-          → now_in S (p + 1) ≡ inside (retyped S Γ rd kind) → Does S Γ p (λ regs heap. spot_at (p + 1) (write_of regs rd (v regs heap)) heap)
+          → now_in S (p + 1) ≡ inside (retyped S Γ rd kind) → Does S Γ p (λ regs heap. spot_at (p + 1) (write_register regs rd (v regs heap)) heap)
       write rd kd ld kind l v z h e x fp f n =
           writes rd kind l v (record { not_r0 = z; within = h; listed = ap (λ (y : Slot). y.listed) e }) x fp
           (subst (λ (m : ℕ). Flows S l m) (ap (λ (y : Slot). y.level) (sym e)) f) n
@@ -119,45 +120,45 @@ module _ (S : Setting) where
       does_item : (i : Item) (P : List Item) → TypedIn S (inside Γ) (i ∷ P) → ItemRange (length S.labels) i → now_in S (p + 1) ≡ next_in S (inside Γ) i
           → Does S Γ p (moves S.target i p)
       unfolding moves now_after goes_on after_of
-      does_item i P (t_label Γ₁ l P₁ b t) h n = jump p (p + 1) (label_in S l) b n
+      does_item i P (t_label Γ₁ l P₁ b t) h n = jump p (p + 1) (label_context S l) b n
       does_item i P (t_halt Γ₁ P₁ e t) h n = goes p Γ (record { now = now; fewer = λ r. inl refl }) (keeps refl (λ o v. v))
-      does_item i P (t_jmp Γ₁ l P₁ b t) h n = jump p (S.target l) (label_in S l) b (W.target_now l h)
+      does_item i P (t_jmp Γ₁ l P₁ b t) h n = jump p (S.target l) (label_context S l) b (W.target_now l h)
       does_item i P (t_cond_brnch Γ₁ rs lr l P₁ e b t) h n =
           let on : Context = context_of (S.order.join Γ.level lr) Γ.stack Γ.registers in
           let n' : now_in S (p + 1) ≡ inside on = n ∙ ap (λ (x : Slot). inside (context_of (S.order.join Γ.level x.level) Γ.stack Γ.registers)) e in
-          branches rs lr (p + 1) (S.target l) on (entered (label_in S l)) (read_value rs INTEGER lr e).known
+          branches rs lr (p + 1) (S.target l) on (entered (label_context S l)) (read_value rs INTEGER lr e).known
           (branch p lr (p + 1) on (record { now = n'; fewer = λ r. inl refl }) refl (λ o v. v))
-          (branch p lr (S.target l) (entered (label_in S l)) (enter p (S.target l) (label_in S l) b.registers (W.target_now l h.1)) (sym b.stack) (flows _ _ b.level))
+          (branch p lr (S.target l) (entered (label_context S l)) (enter p (S.target l) (label_context S l) b.registers (W.target_now l h.1)) (sym b.stack) (flows _ _ b.level))
       does_item i P (t_arith Γ₁ op rd rs rt kd ld ls lt P₁ z ed es et le t) h n =
           let l : ℕ = S.order.join (S.order.join Γ.level ls) lt in
           let first : Flows S (S.order.join Γ.level ls) l = flows_left _ lt l (λ o v. v) in
-          let a : Known S Γ l (λ regs heap. read_of regs rs) = read_known rs INTEGER ls l es (flows_right Γ.level ls l first) in
-          let b : Known S Γ l (λ regs heap. read_of regs rt) = read_known rt INTEGER lt l et (flows_right _ lt l (λ o v. v)) in
-          write p rd kd ld INTEGER l (λ regs heap. compute_of op (read_of regs rs) (read_of regs rt)) z h.1.1 ed
+          let a : Known S Γ l (λ regs heap. read_register regs rs) = read_known rs INTEGER ls l es (flows_right Γ.level ls l first) in
+          let b : Known S Γ l (λ regs heap. read_register regs rt) = read_known rt INTEGER lt l et (flows_right _ lt l (λ o v. v)) in
+          write p rd kd ld INTEGER l (λ regs heap. compute_of op (read_register regs rs) (read_register regs rt)) z h.1.1 ed
           (computed l _ (λ o s₁ s₂ g₁ g₂ agree v i. compute_of op (a o s₁ s₂ g₁ g₂ agree v i) (b o s₁ s₂ g₁ g₂ agree v i)))
           (flows_left Γ.level ls l first) (flows l ld le) n
       does_item i P (t_arithi Γ₁ op rd rs j kd ld ls P₁ z ed es le t) h n =
           let l : ℕ = S.order.join Γ.level ls in
-          let a : Known S Γ l (λ regs heap. read_of regs rs) = read_known rs INTEGER ls l es (flows_right Γ.level ls l (λ o v. v)) in
-          write p rd kd ld INTEGER l (λ regs heap. compute_of (op - 5) (read_of regs rs) (extend_of (immediate_of j))) z h.1.1 ed
+          let a : Known S Γ l (λ regs heap. read_register regs rs) = read_known rs INTEGER ls l es (flows_right Γ.level ls l (λ o v. v)) in
+          write p rd kd ld INTEGER l (λ regs heap. compute_of (op - 5) (read_register regs rs) (extend_of (immediate_of j))) z h.1.1 ed
           (computed l _ (λ o s₁ s₂ g₁ g₂ agree v i. compute_of (op - 5) (a o s₁ s₂ g₁ g₂ agree v i) (extend_of (immediate_of j))))
           (flows_left Γ.level ls l (λ o v. v)) (flows l ld le) n
       does_item i P (t_load Γ₁ rd rs c τ kd ld ls kc lc P₁ z ed es f le le₂ t) h n =
           let is : (field_of S.shapes (slot_at Γ.registers rs).kind c).kind ≡ kc = ap (λ (x : Slot). (field_of S.shapes x.kind c).kind) es ∙ f.kind_is in
-          write p rd kd ld kc lc (λ regs heap. get_or heap (read_of regs rs + c) 0) z h.0.1 ed
-          (word_value kc lc ls lc (λ regs heap. read_of regs rs + c) (field_address rs τ ls c kc lc es f) (λ o v. v) (flows_right Γ.level ls lc (flows _ lc le)))
+          write p rd kd ld kc lc (λ regs heap. get_or heap (read_register regs rs + c) 0) z h.0.1 ed
+          (word_value kc lc ls lc (λ regs heap. read_register regs rs + c) (field_address rs τ ls c kc lc es f) (λ o v. v) (flows_right Γ.level ls lc (flows _ lc le)))
           (flows_left Γ.level ls lc (flows _ lc le)) (flows lc ld le₂)
           (n ∙ ap (λ (k : ℕ). inside (retyped S Γ rd k)) is)
       does_item i P (t_store Γ₁ rd c rs τ ld kind ls P₁ ed f es le t) h n =
-          stores kind ls ld (λ regs heap. read_of regs rd + c) (λ regs heap. read_of regs rs) (field_address rd τ ld c kind ls ed f)
+          stores kind ls ld (λ regs heap. read_register regs rd + c) (λ regs heap. read_register regs rs) (field_address rd τ ld c kind ls ed f)
           (read_value rs kind ls es) (flows_left Γ.level ld ls (flows _ ls le)) (flows_right Γ.level ld ls (flows _ ls le)) n
       does_item i P (t_cpush Γ₁ l P₁ d le t) h n =
-          goes (p + 1) _ (record { now = n; fewer = λ r. inl refl }) (pushes l refl (flows Γ.level (label_in S l).level le) (λ o v. v))
-      does_item i P (t_cjmp Γ₁ l P₁ e m t) h n = goes (S.target l) (entered (label_in S l)) (enter p (S.target l) (label_in S l) m (W.target_now l h)) (pops l e refl refl)
+          goes (p + 1) _ (record { now = n; fewer = λ r. inl refl }) (pushes l refl (flows Γ.level (label_context S l).level le) (λ o v. v))
+      does_item i P (t_cjmp Γ₁ l P₁ e m t) h n = goes (S.target l) (entered (label_context S l)) (enter p (S.target l) (label_context S l) m (W.target_now l h)) (pops l e refl refl)
 
       -- the item at a place
-      pub does : Does S Γ p (moves S.target (item_at S.items p) p)
-      does = let i = standing S W Γ p now in does_item (item_at S.items p) i.rest i.typed i.range i.next
+      pub does : Does S Γ p (moves S.target (nth_item S.items p) p)
+      does = let i = standing S W Γ p now in does_item (nth_item S.items p) i.rest i.typed i.range i.next
 
-      pub needs_met : (s : Spot) → Good S Γ s → Needs (item_at S.items p) s.regs s.heap
-      needs_met s g = let i = standing S W Γ p now in item_needs s g (item_at S.items p) i.rest i.typed
+      pub needs_met : (s : Spot) → Good S Γ s → Needs (nth_item S.items p) s.regs s.heap
+      needs_met s g = let i = standing S W Γ p now in item_needs s g (nth_item S.items p) i.rest i.typed

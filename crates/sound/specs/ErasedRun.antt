@@ -1,4 +1,5 @@
--- A run over erased code follows the run over the items, as long as each item that the latter comes to has what it needs: so it never traps, and where it halts the latter stands at a halt.
+-- A run over erased code follows the run over the items, as long as each item that the latter comes to has what it
+-- needs: so it never traps, and where it halts the latter stands at a halt.
 use Prim.Native.Nat.{ℕ, zero, suc, ◌+◌, ◌<◌, ◌≤◌}
 use Rattle.std.proofs.Common.{arith, sym, ap, subst, ◌∙◌, inl, inr}
 use Rattle.std.specs.Prelude.{◌≡◌, refl, Bool, true, false, ◌⊎◌, List}
@@ -10,7 +11,7 @@ use Rattle.machine.specs.RunLaws.{after_stays}
 use Rattle.listing.specs.declared.items.Item.{Item}
 use Rattle.listing.specs.declared.items.Item.TheVariants.{Halt}
 use Rattle.eraser.specs.Erase.{kept_of, addresses_of, code_of}
-use Rattle.sound.specs.Items.{Spot, item_at, moves_of, Ok}
+use Rattle.sound.specs.Items.{Spot, nth_item, moves_of, Ok}
 use Rattle.sound.specs.ErasedStep.{move_in, moves_in, Laid, machine_for, RunsOrHalts, kept_step, unkept_place, unkept_stays}
 
 -- each item that a run over items comes to has what it needs
@@ -27,7 +28,7 @@ pub status_of : (items : List Item) (s : Spot) (m : Machine) → RunsOrHalts ite
 status_of items s m (inl e) = inl (ap (λ (x : Machine). x.state.status) e)
 status_of items s m (inr h) = inr (ap (λ (x : Machine). x.state.status) h.0)
 
-pub halted_of : (items : List Item) (s : Spot) (m : Machine) → RunsOrHalts items s s m → m.state.status ≡ HALTED → (m ≡ machine_for items HALTED s) × (item_at items s.place ≡ Halt)
+pub halted_of : (items : List Item) (s : Spot) (m : Machine) → RunsOrHalts items s s m → m.state.status ≡ HALTED → (m ≡ machine_for items HALTED s) × (nth_item items s.place ≡ Halt)
 halted_of items s m (inl e) z = absurd (omega (arith, ap (λ (x : Machine). x.state.status) e))
 halted_of items s m (inr h) z = h
 
@@ -71,7 +72,7 @@ module _ (items : List Item) (labels : ℕ) (laid : Laid items labels) where
     unfolding after moves_of
     to_kept zero s h ok = let stands : s.place < length items = (ok 0).stands in absurd (omega arith)
     to_kept (suc fuel) s h ok =
-        by_test (kept_of (item_at items s.place))
+        by_test (kept_of (nth_item items s.place))
         (λ k. from_kept s _ ok (kept_step items labels laid s (ok 0) k))
         (λ k.
         let on : Follows items (move_in items s) (ran (suc n) (machine_for items RUNNING (move_in items s))) =

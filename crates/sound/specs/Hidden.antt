@@ -1,16 +1,18 @@
--- A step at a pc level that is hidden from an observer changes nothing that he sees. It stays hidden, with the same labels on the stack from the first one on that he sees; or it is a cjmp to that label, and the stack is then the label on top of its own.
+-- A step at a pc level that is hidden from an observer changes nothing that he sees. It stays hidden, with the same
+-- labels on the stack from the first one on that he sees; or it is a cjmp to that label, and the stack is then the
+-- label on top of its own.
 use Rattle.std.specs.Prelude.{ℕ, ◌+◌, ◌≡◌, refl, List, ◌∷◌, get_or, set}
 use Rattle.std.proofs.Common.{arith, sym, ap, ◌∙◌, inl, inr}
-use Rattle.choice.specs.Pick.{both}
-use Rattle.machine.specs.Step.{read_of, write_of}
+use Rattle.choice.specs.Pick.{both_ways}
+use Rattle.machine.specs.Step.{read_register, write_register}
 use Rattle.rules.specs.declared.contexts.Slot.{Slot}
 use Rattle.rules.specs.Context.{Context, slot_at}
 use Rattle.checker.specs.Judgement.{inside}
 use Rattle.sound.specs.Items.{Spot, spot_at}
-use Rattle.sound.specs.Setting.{Setting, now_in, label_in, WordIn, Good}
+use Rattle.sound.specs.Setting.{Setting, now_in, label_context, WordIn, Good}
 use Rattle.sound.specs.Agreement.{Hidden, Kept, Unchanged, strip}
 use Rattle.sound.specs.AgreementLaws.{sees_or_not, strip_seen, strip_hidden}
-use Rattle.sound.specs.RegisterLaws.{written, none_listed}
+use Rattle.sound.specs.RegisterLaws.{slots_written, none_listed}
 use Rattle.sound.specs.WordLaws.{one_word, stored}
 use Rattle.sound.specs.Effects.{Way, Flow, keeps, pushes, pops, Branch, retyped, Writable, Does, goes, branches, writes, stores}
 
@@ -32,11 +34,11 @@ module _ (S : Setting) (o : ℕ) (Γ : Context) where
     }
 
     write_unchanged : (p rd kind v : ℕ) → Writable S Γ rd → Hidden S o (slot_at Γ.registers rd).level
-        → Unchanged S o Γ (retyped S Γ rd kind) s (spot_at p (write_of s.regs rd v) s.heap)
+        → Unchanged S o Γ (retyped S Γ rd kind) s (spot_at p (write_register s.regs rd v) s.heap)
     write_unchanged p rd kind v w hidden = record {
       registers = λ r h.
-          written Γ.registers rd _ w.not_r0 w.listed s.regs v (omega (arith, w.within, g.sixteen))
-          (λ y a. Kept S o (slot_at Γ.registers r) y (read_of s.regs r) a) r
+          slots_written Γ.registers rd _ w.not_r0 w.listed s.regs v (omega (arith, w.within, g.sixteen))
+          (λ y a. Kept S o (slot_at Γ.registers r) y (read_register s.regs r) a) r
           (λ e listed. rw e (w.listed, refl, λ sees. absurd (hidden sees))) (λ d listed. (listed, refl, λ sees. refl));
       words = λ a k l x v. refl;
     }
@@ -58,13 +60,13 @@ module _ (S : Setting) (o : ℕ) (Γ : Context) where
       quiet_goes p Γ' w (pushes l e f f') =
           stays Γ' w.now (way_unchanged p Γ' w) (λ v. hidden (f' o v)) (ap (strip S o) e ∙ strip_hidden S o l Γ.stack (λ v. hidden (f o v)))
       quiet_goes p Γ' w (pops l e level at) =
-          elim (sees_or_not S o (label_in S l).level) [
+          elim (sees_or_not S o (label_context S l).level) [
             | inl v ↦ drops Γ' w.now (way_unchanged p Γ' w) l at (ap (strip S o) e ∙ strip_seen S o l Γ'.stack v)
             | inr h ↦ stays Γ' w.now (way_unchanged p Γ' w) (λ v. h (rw level at v)) (sym (ap (strip S o) e ∙ strip_hidden S o l Γ'.stack h))
           ]
 
       pub quiet : (p : ℕ) (f : List ℕ → List ℕ → Spot) → Does S Γ p f → Quiet s (f s.regs s.heap)
       quiet p f (goes p' Γ' w fl) = quiet_goes p' Γ' w fl
-      quiet p f (branches rs l p₁ p₂ Γ₁ Γ₂ k b₁ b₂) = both (Quiet s) _ _ _ (quiet_branch l p₁ Γ₁ b₁) (quiet_branch l p₂ Γ₂ b₂)
+      quiet p f (branches rs l p₁ p₂ Γ₁ Γ₂ k b₁ b₂) = both_ways (Quiet s) _ _ _ (quiet_branch l p₁ Γ₁ b₁) (quiet_branch l p₂ Γ₂ b₂)
       quiet p f (writes rd kind l v w x fp fl n) = stays (retyped S Γ rd kind) n (write_unchanged (p + 1) rd kind _ w (λ y. hidden (fp o (fl o y)))) hidden refl
       quiet p f (stores kind l la a v w x fp fa n) = stays Γ n (store_unchanged (p + 1) kind l _ _ (w.word s g) (λ y. hidden (fp o y))) hidden refl

@@ -1,7 +1,8 @@
 -- No accepted routine ever traps, and none tells.
 pub mod Contexts  -- the context before each item
 pub mod Halting  -- the context in which a run halts, by its pc
-pub mod Observer  -- what an observer sees, and when starts and ends agree for him
+pub mod Observer  -- what an observer sees, and when starts agree for him
+pub mod Ends  -- when ends agree for him
 pub mod Items  -- a machine that steps over items
 pub mod Setting  -- what a run over items goes over, and what holds of it at each spot
 pub mod Agreement  -- what two runs have in common for an observer
@@ -27,4 +28,3 @@ pub mod Accepted  -- the listing of an accepted packet
 pub mod Sound  -- the promise over any order of levels
 pub mod Served  -- a desk call that refuses nothing
 pub mod Promise  -- the promise of the desk call: read this first
-pub mod K1  -- K1 is an instance

@@ -1,4 +1,5 @@
--- The run of a well typed listing's code from its start: it follows the run over the items from behind the first label; so its status is running or halted, and where it has halted the context is known by the pc.
+-- The run of a well typed listing's code from its start: it follows the run over the items from behind the first label;
+-- so its status is running or halted, and where it has halted the context is known by the pc.
 use Rattle.std.specs.Prelude.{ℕ, ◌≤◌, ◌≡◌, Bool, ◌⊎◌, List, length}
 use Rattle.std.proofs.Math.Path.{refl, sym}
 use Rattle.std.proofs.Common.{ap, subst, ◌∙◌}
@@ -14,7 +15,7 @@ use Rattle.checker.specs.Judgement.{inside, WellTyped}
 use Rattle.eraser.specs.Erase.{kept_of, addresses_of, code_of}
 use Rattle.sound.specs.Contexts.{now_at}
 use Rattle.sound.specs.ContextLaws.{halt_now}
-use Rattle.sound.specs.Items.{Spot, spot_at, item_at}
+use Rattle.sound.specs.Items.{Spot, spot_at, nth_item}
 use Rattle.sound.specs.Halting.{halt_context}
 use Rattle.sound.specs.Addresses.{halt_context_at, code_fits, addresses_low, target_address, start_address}
 use Rattle.sound.specs.ErasedStep.{moves_in, Laid, machine_for}
@@ -25,13 +26,13 @@ abbrev pub listing_code : Listing → List ℕ
 listing_code l = code_of (addresses_of l.items) l.items
 
 -- the machine after n steps of its run from a start
-abbrev pub ran_of : Listing → List ℕ → List ℕ → ℕ → Machine
-ran_of l regs heap n = after (listing_code l) n (machine_at regs 0 RUNNING heap)
+abbrev pub listing_ran : Listing → List ℕ → List ℕ → ℕ → Machine
+listing_ran l regs heap n = after (listing_code l) n (machine_at regs 0 RUNNING heap)
 
 -- a machine has halted where a run over the items of a listing from a spot stands at a halt, in the context that the pc tells
 pub record Halted (◌⊑◌ : ℕ → ℕ → Bool) (◌⊔◌ : ℕ → ℕ → ℕ) (l : Listing) (s : Spot) (m : Machine) : Type 0 where
   pub moved : ℕ
-  pub at_halt : item_at l.items (moves_in l.items moved s).place ≡ Halt
+  pub at_halt : nth_item l.items (moves_in l.items moved s).place ≡ Halt
   pub machine : m ≡ machine_for l.items HALTED (moves_in l.items moved s)
   pub context : Context
   pub before_halt : now_at ◌⊑◌ ◌⊔◌ l.shapes l.labels l.items (moves_in l.items moved s).place ≡ inside context
@@ -51,21 +52,21 @@ module _ (◌⊑◌ : ℕ → ℕ → Bool) (◌⊔◌ : ℕ → ℕ → ℕ) (l
 
   module _ (regs heap : List ℕ) (ok : AlwaysOk l.items (spot_at 1 regs heap)) (n : ℕ) where
     -- a run of n steps follows the run over the items from behind the first label
-    pub start_follows : Follows l.items (spot_at 1 regs heap) (ran_of l regs heap n)
+    pub start_follows : Follows l.items (spot_at 1 regs heap) (listing_ran l regs heap n)
     start_follows =
         subst (λ (a : ℕ). Follows l.items (spot_at 1 regs heap) (after (listing_code l) n (machine_at regs a RUNNING heap))) (start_address ◌⊑◌ ◌⊔◌ l r w)
         (run_follows l.items (length l.labels) code_laid n (spot_at 1 regs heap) ok)
 
     -- it never traps
-    pub runs_or_halts : ((ran_of l regs heap n).state.status ≡ RUNNING) ⊎ ((ran_of l regs heap n).state.status ≡ HALTED)
-    runs_or_halts = status_of l.items (moves_in l.items start_follows.moved (spot_at 1 regs heap)) (ran_of l regs heap n) start_follows.stands
+    pub runs_or_halts : ((listing_ran l regs heap n).state.status ≡ RUNNING) ⊎ ((listing_ran l regs heap n).state.status ≡ HALTED)
+    runs_or_halts = status_of l.items (moves_in l.items start_follows.moved (spot_at 1 regs heap)) (listing_ran l regs heap n) start_follows.stands
 
     -- where it halts
-    pub halts_at : (ran_of l regs heap n).state.status ≡ HALTED → Halted ◌⊑◌ ◌⊔◌ l (spot_at 1 regs heap) (ran_of l regs heap n)
+    pub halts_at : (listing_ran l regs heap n).state.status ≡ HALTED → Halted ◌⊑◌ ◌⊔◌ l (spot_at 1 regs heap) (listing_ran l regs heap n)
     halts_at z =
         let s : Spot = moves_in l.items start_follows.moved (spot_at 1 regs heap) in
-        let m : Machine = ran_of l regs heap n in
-        let h : (m ≡ machine_for l.items HALTED s) × (item_at l.items s.place ≡ Halt) = halted_of l.items s m start_follows.stands z in
+        let m : Machine = listing_ran l regs heap n in
+        let h : (m ≡ machine_for l.items HALTED s) × (nth_item l.items s.place ≡ Halt) = halted_of l.items s m start_follows.stands z in
         let inside_at = halt_now ◌⊑◌ ◌⊔◌ l w s.place (ok start_follows.moved).stands h.1 in
         record {
           moved = start_follows.moved;

@@ -1,13 +1,11 @@
--- What the promise speaks of, over any order of levels: what an observer sees, when two starts agree for him, and when two ends do.
+-- What the promise speaks of, over any order of levels: what an observer sees, and when two starts agree for him.
 use Rattle.std.specs.Prelude.{ℕ, ◌≡◌, true, List, length, get_or}
 use Rattle.levels.specs.Order.{Order}
-use Rattle.machine.specs.Step.{Machine}
-use Rattle.listing.specs.Listing.{Field, Register, Listing, Each}
+use Rattle.listing.specs.Listing.{Field, Register, Each}
 use Rattle.rules.specs.Context.{slot_at}
 use Rattle.checker.specs.Judgement.{Now, due, inside}
-use Rattle.start.specs.Start.{Row}
+use Rattle.start.specs.Rows.{Row}
 use Rattle.start.specs.Meaning.{Word}
-use Rattle.sound.specs.Halting.{halt_context}
 
 -- an address that is no block word
 abbrev pub Outside : List (List Field) → List Row → ℕ → Type 0
@@ -36,9 +34,3 @@ module _ (O : Order) (o : ℕ) where
   pub record StartsAgree (shapes : List (List Field)) (rows : List Row) (listed : List Register) (regs₁ heap₁ regs₂ heap₂ : List ℕ) : Type 0 where
     pub words : SameWords shapes rows heap₁ heap₂
     pub registers : Each (λ (x : Register). Sees x.level → get_or regs₁ x.index 0 ≡ get_or regs₂ x.index 0) listed
-
-  -- two machines that have halted agree for him: so do the block words, and each register that both halting contexts list at a level that he sees
-  pub record EndsAgree (l : Listing) (rows : List Row) (m₁ m₂ : Machine) : Type 0 where
-    pub words : SameWords l.shapes rows m₁.heap m₂.heap
-    pub registers : (r : ℕ) → Shows (halt_context O.below O.join l m₁.state.pc) r → Shows (halt_context O.below O.join l m₂.state.pc) r
-        → get_or m₁.state.regs r 0 ≡ get_or m₂.state.regs r 0

@@ -1,16 +1,17 @@
--- One run over the items of a well typed listing: it stands well at each spot, so each item has what it needs; words outside blocks keep their values, and the heap its length.
+-- One run over the items of a well typed listing: it stands well at each spot, so each item has what it needs; words
+-- outside blocks keep their values, and the heap its length.
 use Prim.Native.Nat.{ℕ, zero, suc}
 use Rattle.std.proofs.Common.{arith, sym, ap, subst, ◌∙◌, inl, inr, length-set}
 use Rattle.std.specs.Prelude.{◌≡◌, refl, List, length, get_or, set}
-use Rattle.choice.specs.Pick.{both}
-use Rattle.machine.specs.Step.{read_of}
+use Rattle.choice.specs.Pick.{both_ways}
+use Rattle.machine.specs.Step.{read_register}
 use Rattle.rules.specs.declared.contexts.Slot.{Slot}
 use Rattle.rules.specs.Context.{Context}
 use Rattle.start.specs.Meaning.{Holds, GoodRows}
 use Rattle.sound.specs.Observer.{Frame}
-use Rattle.sound.specs.Items.{Spot, spot_at, item_at, moves, moves_of, Ok}
-use Rattle.sound.specs.Setting.{Setting, WordIn, next, after, WellPlaced, Good}
-use Rattle.sound.specs.RegisterLaws.{write_length, written, none_pointer}
+use Rattle.sound.specs.Items.{Spot, spot_at, nth_item, moves, moves_of, Ok}
+use Rattle.sound.specs.Setting.{Setting, WordIn, next_spot, spot_after, WellPlaced, Good}
+use Rattle.sound.specs.RegisterLaws.{write_length, slots_written, none_pointer}
 use Rattle.sound.specs.WordLaws.{one_word, stored}
 use Rattle.sound.specs.PlaceLaws.{stands}
 use Rattle.sound.specs.Effects.{Way, retyped, Does, goes, branches, writes, stores}
@@ -42,7 +43,7 @@ module _ (S : Setting) where
         now = w.now;
         sixteen = g.sixteen;
         registers = λ r. elim (w.fewer r) [
-          | inl e ↦ subst (λ (x : Slot). Holds S.rows x.kind (read_of s.regs r)) (sym e) (g.registers r)
+          | inl e ↦ subst (λ (x : Slot). Holds S.rows x.kind (read_register s.regs r)) (sym e) (g.registers r)
           | inr e ↦ λ h. let z = ap (λ (x : Slot). x.kind) e ∙ none_pointer r in absurd (omega arith)
         ];
         rows = g.rows;
@@ -53,14 +54,14 @@ module _ (S : Setting) where
 
     onward : (p : ℕ) (f : List ℕ → List ℕ → Spot) → Does S Γ p f → Onward s (f s.regs s.heap)
     onward p f (goes p' Γ' w fl) = on_a_way p' Γ' w
-    onward p f (branches rs l p₁ p₂ Γ₁ Γ₂ k b₁ b₂) = both (Onward s) _ _ _ (on_a_way p₁ Γ₁ b₁.way) (on_a_way p₂ Γ₂ b₂.way)
+    onward p f (branches rs l p₁ p₂ Γ₁ Γ₂ k b₁ b₂) = both_ways (Onward s) _ _ _ (on_a_way p₁ Γ₁ b₁.way) (on_a_way p₂ Γ₂ b₂.way)
     onward p f (writes rd kind l v w x fp fl n) = record {
       context = retyped S Γ rd kind;
       well = record {
         now = n;
         sixteen = write_length s.regs rd (v s.regs s.heap) w.not_r0 ∙ g.sixteen;
         registers = λ r.
-            written Γ.registers rd _ w.not_r0 w.listed s.regs (v s.regs s.heap) (omega (arith, w.within, g.sixteen))
+            slots_written Γ.registers rd _ w.not_r0 w.listed s.regs (v s.regs s.heap) (omega (arith, w.within, g.sixteen))
             (λ y a. Holds S.rows y.kind a) r (λ e. x.holds s g) (λ d. g.registers r);
         rows = g.rows;
         words = g.words;
@@ -96,18 +97,18 @@ module _ (S : Setting) where
     pub well_ok : Ok S.items s
     well_ok = record { stands = stands S W Γ s.place g.now; needs = needs_met S Γ W s.place g.now s g }
 
-    pub well_next : Onward s (next S s)
-    well_next = onward Γ s g s.place (moves S.target (item_at S.items s.place) s.place) (does S Γ W s.place g.now)
+    pub well_next : Onward s (next_spot S s)
+    well_next = onward Γ s g s.place (moves S.target (nth_item S.items s.place) s.place) (does S Γ W s.place g.now)
 
   -- so it is after any number of items
   module _ (W : WellPlaced S) where
-    pub well_after : (n : ℕ) (Γ : Context) (s : Spot) → Good S Γ s → Onward s (after S n s)
+    pub well_after : (n : ℕ) (Γ : Context) (s : Spot) → Good S Γ s → Onward s (spot_after S n s)
     unfolding moves_of
     well_after zero Γ s g = record { context = Γ; well = g; frame = frame_none s.heap }
     well_after (suc n) Γ s g =
         let one = well_next W Γ s g in
-        let more = well_after n one.context (next S s) one.well in
+        let more = well_after n one.context (next_spot S s) one.well in
         record { context = more.context; well = more.well; frame = frame_on _ _ _ one.frame more.frame }
 
-    pub ok_after : (n : ℕ) (Γ : Context) (s : Spot) → Good S Γ s → Ok S.items (after S n s)
-    ok_after n Γ s g = let o = well_after n Γ s g in well_ok W o.context (after S n s) o.well
+    pub ok_after : (n : ℕ) (Γ : Context) (s : Spot) → Good S Γ s → Ok S.items (spot_after S n s)
+    ok_after n Γ s g = let o = well_after n Γ s g in well_ok W o.context (spot_after S n s) o.well

@@ -9,12 +9,12 @@ use Rattle.start.specs.ClearLaws.{each_to}
 use Rattle.rules.specs.Context.{Context}
 use Rattle.checker.specs.Judgement.{Now, inside, t_halt}
 use Rattle.sound.specs.Contexts.{now_after, now_from}
-use Rattle.sound.specs.Items.{item_at}
+use Rattle.sound.specs.Items.{nth_item}
 use Rattle.sound.specs.Setting.{Setting, now_in, next_in, TypedIn, WellPlaced}
 
 -- the context behind an item is the one after it
 now_next : (◌⊑◌ : ℕ → ℕ → Bool) (◌⊔◌ : ℕ → ℕ → ℕ) (shapes : List (List Field)) (labels : List LabelContext) (n : Now) (items : List Item) (p : ℕ) → p < length items
-    → now_from ◌⊑◌ ◌⊔◌ shapes labels n items (suc p) ≡ now_after ◌⊑◌ ◌⊔◌ shapes labels (now_from ◌⊑◌ ◌⊔◌ shapes labels n items p) (item_at items p)
+    → now_from ◌⊑◌ ◌⊔◌ shapes labels n items (suc p) ≡ now_after ◌⊑◌ ◌⊔◌ shapes labels (now_from ◌⊑◌ ◌⊔◌ shapes labels n items p) (nth_item items p)
 unfolding now_from
 now_next ◌⊑◌ ◌⊔◌ shapes labels n [] p h = absurd (omega arith)
 now_next ◌⊑◌ ◌⊔◌ shapes labels n (i ∷ items) zero h = refl
@@ -43,16 +43,16 @@ module _ (S : Setting) where
           | no n ↦ absurd (no_end Γ (rw (drop_of_length-le S.items {i = p} (omega arith)) at here_typed))
         ]
 
-    pub standing : Standing Γ p (item_at S.items p)
+    pub standing : Standing Γ p (nth_item S.items p)
     standing = record {
       rest = drop (suc p) S.items;
       typed = rw (drop-cons S.items p Halt stands) at here_typed;
       range = each_to (ItemRange (length S.labels)) Halt S.items W.ranges p stands;
-      next = ap (now_in S) (add-one p) ∙ now_next S.order.below S.order.join S.shapes S.labels _ S.items p stands ∙ ap (λ (n : Now). next_in S n (item_at S.items p)) now;
+      next = ap (now_in S) (add-one p) ∙ now_next S.order.below S.order.join S.shapes S.labels _ S.items p stands ∙ ap (λ (n : Now). next_in S n (nth_item S.items p)) now;
     }
 
     -- at a halt the stack is empty
-    pub halt_empty : item_at S.items p ≡ Halt → Γ.stack ≡ []
+    pub halt_empty : nth_item S.items p ≡ Halt → Γ.stack ≡ []
     halt_empty e = empty standing.rest (rw e at standing.typed)
       where
         empty : (P : List Item) → TypedIn S (inside Γ) (Halt ∷ P) → Γ.stack ≡ []

@@ -4,7 +4,7 @@ use Rattle.std.proofs.Common.{arith, sym, ap, ◌∙◌, true≢false, inl, inr,
 use Rattle.std.proofs.Math.Decide.{ℕ_discrete, dec_lt}
 use Rattle.std.proofs.Math.ListN.{get_or-eq_default}
 use Rattle.std.proofs.Math.Seq.{set_out}
-use Rattle.machine.specs.Step.{read_of, write_of}
+use Rattle.machine.specs.Step.{read_register, write_register}
 use Rattle.machine.specs.TableLaws.{reads_zero, reads, writes}
 use Rattle.listing.specs.Limits.{TOP_PART}
 use Rattle.listing.specs.Listing.{Register, Each}
@@ -13,16 +13,16 @@ use Rattle.rules.specs.Context.{INTEGER, unlisted, slot_at, slot_of, no_register
 use Rattle.checker.specs.Judgement.{Lists}
 
 -- r0 reads as 0; any other register as it stands
-pub read_r0 : (regs : List ℕ) → read_of regs 0 ≡ 0
+pub read_r0 : (regs : List ℕ) → read_register regs 0 ≡ 0
 read_r0 regs = sym (reads_zero regs 0 0 refl refl)
 
-pub read_other : (regs : List ℕ) (r : ℕ) → 0 < r → read_of regs r ≡ get_or regs r 0
+pub read_other : (regs : List ℕ) (r : ℕ) → 0 < r → read_register regs r ≡ get_or regs r 0
 read_other regs r h = sym (reads regs r r refl (λ e. omega arith))
 
-write_other : (regs : List ℕ) (r v : ℕ) → 0 < r → write_of regs r v ≡ set regs r v
+write_other : (regs : List ℕ) (r v : ℕ) → 0 < r → write_register regs r v ≡ set regs r v
 write_other regs r v h = sym (writes regs r r refl v (λ e. omega arith))
 
-pub write_length : (regs : List ℕ) (r v : ℕ) → 0 < r → length (write_of regs r v) ≡ length regs
+pub write_length : (regs : List ℕ) (r v : ℕ) → 0 < r → length (write_register regs r v) ≡ length regs
 write_length regs r v h = ap length (write_other regs r v h) ∙ length-set regs r v
 
 -- a register that is listed is one of the list
@@ -35,22 +35,23 @@ listed_within registers r e =
 
 -- a write to a register that is not r0
 module _ (regs : List ℕ) (rd v : ℕ) (not_r0 : 0 < rd) where
-  read_written : rd < length regs → read_of (write_of regs rd v) rd ≡ v
-  read_written h = read_other (write_of regs rd v) rd not_r0 ∙ ap (λ (l : List ℕ). get_or l rd 0) (write_other regs rd v not_r0) ∙ get_or-set_same regs rd v 0 h
+  read_written : rd < length regs → read_register (write_register regs rd v) rd ≡ v
+  read_written h = read_other (write_register regs rd v) rd not_r0 ∙ ap (λ (l : List ℕ). get_or l rd 0) (write_other regs rd v not_r0) ∙ get_or-set_same regs rd v 0 h
 
-  read_unwritten : (r : ℕ) → (r ≡ rd → ⊥) → read_of (write_of regs rd v) r ≡ read_of regs r
-  read_unwritten zero d = read_r0 (write_of regs rd v) ∙ sym (read_r0 regs)
+  read_unwritten : (r : ℕ) → (r ≡ rd → ⊥) → read_register (write_register regs rd v) r ≡ read_register regs r
+  read_unwritten zero d = read_r0 (write_register regs rd v) ∙ sym (read_r0 regs)
   read_unwritten (suc r) d =
-      read_other (write_of regs rd v) (suc r) (omega arith)
+      read_other (write_register regs rd v) (suc r) (omega arith)
       ∙ ap (λ (l : List ℕ). get_or l (suc r) 0) (write_other regs rd v not_r0)
       ∙ get_or-set_other regs rd (suc r) v 0 d
       ∙ sym (read_other regs (suc r) (omega arith))
 
--- a register written, and its slot with it: what holds of the new slot and value, and of each other register's as before, holds of each register's. In two runs, and in one
+-- a register written, and its slot with it: what holds of the new slot and value, and of each other register's as
+-- before, holds of each register's. In two runs, and in one
 module _ (registers : List Slot) (rd : ℕ) (x : Slot) (not_r0 : 0 < rd) (listed : (slot_at registers rd).listed ≡ true) where
   pub both_written : (regs₁ regs₂ : List ℕ) (v₁ v₂ : ℕ) → rd < length regs₁ → rd < length regs₂ → (Q : Slot → ℕ → ℕ → Type 0) (r : ℕ)
-      → (r ≡ rd → Q x v₁ v₂) → ((r ≡ rd → ⊥) → Q (slot_at registers r) (read_of regs₁ r) (read_of regs₂ r))
-      → Q (slot_at (set registers rd x) r) (read_of (write_of regs₁ rd v₁) r) (read_of (write_of regs₂ rd v₂) r)
+      → (r ≡ rd → Q x v₁ v₂) → ((r ≡ rd → ⊥) → Q (slot_at registers r) (read_register regs₁ r) (read_register regs₂ r))
+      → Q (slot_at (set registers rd x) r) (read_register (write_register regs₁ rd v₁) r) (read_register (write_register regs₂ rd v₂) r)
   both_written regs₁ regs₂ v₁ v₂ h₁ h₂ Q r here other =
       elim (ℕ_discrete r rd) [
         | yes e ↦ rw (
@@ -66,9 +67,9 @@ module _ (registers : List Slot) (rd : ℕ) (x : Slot) (not_r0 : 0 < rd) (listed
         ) (other d)
       ]
 
-  pub written : (regs : List ℕ) (v : ℕ) → rd < length regs → (Q : Slot → ℕ → Type 0) (r : ℕ) → (r ≡ rd → Q x v) → ((r ≡ rd → ⊥) → Q (slot_at registers r) (read_of regs r))
-      → Q (slot_at (set registers rd x) r) (read_of (write_of regs rd v) r)
-  written regs v h Q = both_written regs regs v v h h (λ y a b. Q y a)
+  pub slots_written : (regs : List ℕ) (v : ℕ) → rd < length regs → (Q : Slot → ℕ → Type 0) (r : ℕ) → (r ≡ rd → Q x v) → ((r ≡ rd → ⊥) → Q (slot_at registers r) (read_register regs r))
+      → Q (slot_at (set registers rd x) r) (read_register (write_register regs rd v) r)
+  slots_written regs v h Q = both_written regs regs v v h h (λ y a b. Q y a)
 
 -- of no registers none is a pointer, and none but r0 is listed
 none_behind : (n r : ℕ) → slot_at (replicate n unlisted) r ≡ unlisted

@@ -1,4 +1,5 @@
--- A desk call that refuses nothing leaves what the run over its packet's listing leaves, from a start that passes. So what Sound says of such runs it says of such calls.
+-- A desk call that refuses nothing leaves what the run over its packet's listing leaves, from a start that passes. So
+-- what Sound says of such runs it says of such calls.
 use Rattle.std.specs.Prelude.{ℕ, ◌≡◌, refl, List, length}
 use Rattle.std.proofs.Common.{zero-add, subst, ◌∙◌}
 use Rattle.std.proofs.Math.Path.{sym, ap}
@@ -16,15 +17,17 @@ use Rattle.checker.specs.declared.packets.Checked.{Checked}
 use Rattle.checker.specs.declared.packets.Checked.TheVariants.{Accepted}
 use Rattle.checker.specs.Check.{check_of}
 use Rattle.eraser.specs.Erase.{needed_of}
-use Rattle.start.specs.Start.{rows_of, first_listed, start_of}
+use Rattle.start.specs.Rows.{rows_of}
+use Rattle.start.specs.Start.{first_listed, start_of}
 use Rattle.start.specs.ClearLaws.{else_clear}
 use Rattle.start.specs.PassingLaws.{clear_means}
-use Rattle.service.specs.Desk.{right_sizes, sizes_of, later_fault, code_for, ran_of, DeskCall, ran_call, serve_by, desk_by, desk_of}
-use Rattle.service.specs.DeskLaws.{right_means, sizes_pass}
+use Rattle.desk.specs.Desk.{right_sizes, sizes_of, later_fault, code_for, ran_of, DeskCall, ran_call, serve_by, desk_by, desk_of}
+use Rattle.desk.specs.DeskLaws.{right_means, sizes_pass}
 use Rattle.sound.specs.Halting.{HaltsAt}
-use Rattle.sound.specs.Observer.{Frame, StartsAgree, EndsAgree}
+use Rattle.sound.specs.Observer.{Frame, StartsAgree}
+use Rattle.sound.specs.Ends.{EndsAgree}
 use Rattle.sound.specs.ListingRun as listing
-use Rattle.sound.specs.Steps.{Steps, NoTrap, counted}
+use Rattle.sound.specs.Steps.{Steps, NoTrap, steps_counted}
 use Rattle.sound.specs.Accepted.{packet_listing, accepted_ranges, accepted_typed}
 use Rattle.sound.specs.Sound as sound
 
@@ -45,7 +48,7 @@ module _ (packet code heap blocks regs : List ℕ) (budget : ℕ) where
 
     -- the run
     run_is : ran_of (numbers_in packet) heap regs budget
-        ≡ outcome_at (listing.ran_of (packet_listing packet) regs heap budget) (acted (code_for (numbers_in packet)) budget (machine_at regs 0 RUNNING heap))
+        ≡ outcome_at (listing.listing_ran (packet_listing packet) regs heap budget) (acted (code_for (numbers_in packet)) budget (machine_at regs 0 RUNNING heap))
     unfolding code_for outcome_from
     run_is =
         let fit = sizes_pass _ (length code) _ budget sizes_and_start.0 in
@@ -58,7 +61,7 @@ module _ (packet code heap blocks regs : List ℕ) (budget : ℕ) where
     unfolding desk_of desk_by serve_by
     call_is = ap (λ (x : Checked). desk_by x (numbers_in packet) code heap blocks regs budget) e ∙ sym (is_equal _ 0 _ _ _ z refl)
 
-    left_is : left_by ≡ listing.ran_of (packet_listing packet) regs heap budget
+    left_is : left_by ≡ listing.listing_ran (packet_listing packet) regs heap budget
     unfolding ran_call
     left_is =
         ap (λ (c : DeskCall). machine_at c.answer.regs (ran_of (numbers_in packet) heap regs budget).machine.state.pc c.answer.number c.heap) call_is
@@ -86,7 +89,7 @@ module _ (packet code heap blocks regs : List ℕ) (budget : ℕ) where
       pub counts_steps : Steps (code_for (numbers_in packet)) budget (machine_at regs 0 RUNNING heap) call.answer.count left_by
       unfolding code_for
       counts_steps = rw (left_is, count_is)
-          (counted (code_for (numbers_in packet)) budget (machine_at regs 0 RUNNING heap)
+          (steps_counted (code_for (numbers_in packet)) budget (machine_at regs 0 RUNNING heap)
           (λ k. sound.never_traps sets (packet_listing packet) (accepted_ranges packet n e) (accepted_typed packet n e) (rows_of blocks) regs heap start k))
 
       pub keeps_outside : Frame (packet_listing packet).shapes (rows_of blocks) heap call.heap
@@ -105,7 +108,7 @@ tells_nothing packet blocks code₁ heap₁ regs₁ budget₁ n₁ code₂ heap�
     let is₂ = left_is packet code₂ heap₂ blocks regs₂ budget₂ n₂ e₂ z₂ in
     let l : Listing = packet_listing packet in
     subst (λ (m : Machine). EndsAgree sets o l (rows_of blocks) m (left_by packet code₂ heap₂ blocks regs₂ budget₂)) (sym is₁)
-    (subst (EndsAgree sets o l (rows_of blocks) (listing.ran_of l regs₁ heap₁ budget₁)) (sym is₂)
+    (subst (EndsAgree sets o l (rows_of blocks) (listing.listing_ran l regs₁ heap₁ budget₁)) (sym is₂)
     (sound.tells_nothing sets l (accepted_ranges packet n₁ e₁) (accepted_typed packet n₁ e₁) (rows_of blocks) o regs₁ heap₁ regs₂ heap₂
     (start packet code₁ heap₁ blocks regs₁ budget₁ n₁ e₁ z₁ l₁) (start packet code₂ heap₂ blocks regs₂ budget₂ n₂ e₂ z₂ l₂) a budget₁ budget₂
     (ap (λ (m : Machine). m.state.status) (sym is₁) ∙ h₁) (ap (λ (m : Machine). m.state.status) (sym is₂) ∙ h₂)))

@@ -3,16 +3,18 @@ use Rattle.std.specs.Prelude.{ℕ, ◌+◌, ◌≡◌, List, length, get_or}
 use Rattle.std.proofs.Common.{sym, ap, subst, ◌∙◌}
 use Rattle.levels.specs.Order.{Order}
 use Rattle.machine.specs.Numbers.{HALTED, RUNNING}
-use Rattle.machine.specs.Step.{Machine, machine_at, read_of}
+use Rattle.machine.specs.Step.{Machine, machine_at, read_register}
 use Rattle.machine.specs.R0Laws.{reads_plain, after_keeps_r0}
 use Rattle.listing.specs.Limits.{TOP_PART}
 use Rattle.listing.specs.Listing.{Register, LabelContext, Listing, Ranges}
 use Rattle.rules.specs.Context.{target_of}
 use Rattle.checker.specs.Judgement.{Now, inside, WellTyped}
-use Rattle.start.specs.Start.{Row, listed_first}
+use Rattle.start.specs.Rows.{Row}
+use Rattle.start.specs.Start.{listed_first}
 use Rattle.start.specs.Meaning.{Passing}
 use Rattle.sound.specs.Halting.{HaltsAt}
-use Rattle.sound.specs.Observer.{Frame, Shows, StartsAgree, EndsAgree}
+use Rattle.sound.specs.Observer.{Frame, Shows, StartsAgree}
+use Rattle.sound.specs.Ends.{EndsAgree}
 use Rattle.sound.specs.Items.{spot_at}
 use Rattle.sound.specs.Setting.{Setting, WellPlaced}
 use Rattle.sound.specs.Agreement.{Agree}
@@ -22,7 +24,7 @@ use Rattle.sound.specs.Labels.{target_in}
 use Rattle.sound.specs.ContextLaws.{typed_at, target_now, start_now, listed_by_first}
 use Rattle.sound.specs.ErasedStep.{moves_in}
 use Rattle.sound.specs.ErasedRun.{AlwaysOk, heap_of}
-use Rattle.sound.specs.ListingRun.{listing_code, ran_of, Halted, start_follows, runs_or_halts, halts_at}
+use Rattle.sound.specs.ListingRun.{listing_code, listing_ran, Halted, start_follows, runs_or_halts, halts_at}
 use Rattle.sound.specs.Steps.{NoTrap}
 
 -- sixteen registers and a heap that pass the start check of a listing and a block table
@@ -52,15 +54,15 @@ module _ (O : Order) (l : Listing) (r : Ranges l) (w : WellTyped O.below O.join 
 
     module _ (n : ℕ) where
       -- 1. after any number of steps the machine runs or has halted
-      pub never_traps : NoTrap (ran_of l regs heap n)
+      pub never_traps : NoTrap (listing_ran l regs heap n)
       never_traps = runs_or_halts O.below O.join l r w regs heap always_ok n
 
       -- where it has halted: the machine and the run over the items
-      halted : (ran_of l regs heap n).state.status ≡ HALTED → Halted O.below O.join l (spot_at 1 regs heap) (ran_of l regs heap n)
+      halted : (listing_ran l regs heap n).state.status ≡ HALTED → Halted O.below O.join l (spot_at 1 regs heap) (listing_ran l regs heap n)
       halted = halts_at O.below O.join l r w regs heap always_ok n
 
       -- it stands at a halt item, in the context that its pc tells
-      pub halts_at_halt : (ran_of l regs heap n).state.status ≡ HALTED → HaltsAt O.below O.join l (ran_of l regs heap n).state.pc
+      pub halts_at_halt : (listing_ran l regs heap n).state.status ≡ HALTED → HaltsAt O.below O.join l (listing_ran l regs heap n).state.pc
       halts_at_halt h =
           let e = halted h in
           record {
@@ -74,24 +76,24 @@ module _ (O : Order) (l : Listing) (r : Ranges l) (w : WellTyped O.below O.join 
           }
 
       -- 3. the heap keeps its length, and words outside blocks their values
-      pub keeps_outside : Frame l.shapes rows heap (ran_of l regs heap n).heap
+      pub keeps_outside : Frame l.shapes rows heap (listing_ran l regs heap n).heap
       keeps_outside =
           let f = start_follows O.below O.join l r w regs heap always_ok n in
-          subst (Frame l.shapes rows heap) (sym (heap_of l.items (moves_in l.items f.moved (spot_at 1 regs heap)) (ran_of l regs heap n) f.stands))
+          subst (Frame l.shapes rows heap) (sym (heap_of l.items (moves_in l.items f.moved (spot_at 1 regs heap)) (listing_ran l regs heap n) f.stands))
           (start_frame (setting O l rows) first placed 1 (start_now O.below O.join l w) regs heap s.sixteen passes f.moved)
 
       -- registers read as they stand, r0 too
-      plain : (i : ℕ) → get_or (ran_of l regs heap n).state.regs i 0 ≡ read_of (ran_of l regs heap n).state.regs i
+      plain : (i : ℕ) → get_or (listing_ran l regs heap n).state.regs i 0 ≡ read_register (listing_ran l regs heap n).state.regs i
       plain i = reads_plain _ i i (λ j. i) (after_keeps_r0 (listing_code l) n (machine_at regs 0 RUNNING heap) ∙ s.passing.good_registers.r0)
 
   -- two runs that have halted: what the runs over the items have in common for an observer
   module _ (o : ℕ) (regs₁ heap₁ regs₂ heap₂ : List ℕ) (s₁ : Start l rows regs₁ heap₁) (s₂ : Start l rows regs₂ heap₂)
       (a : StartsAgree O o l.shapes rows (listed_first l.labels l.items) regs₁ heap₁ regs₂ heap₂)
-      (n₁ n₂ : ℕ) (h₁ : (ran_of l regs₁ heap₁ n₁).state.status ≡ HALTED) (h₂ : (ran_of l regs₂ heap₂ n₂).state.status ≡ HALTED) where
-    abbrev end₁ : Halted O.below O.join l (spot_at 1 regs₁ heap₁) (ran_of l regs₁ heap₁ n₁)
+      (n₁ n₂ : ℕ) (h₁ : (listing_ran l regs₁ heap₁ n₁).state.status ≡ HALTED) (h₂ : (listing_ran l regs₂ heap₂ n₂).state.status ≡ HALTED) where
+    abbrev end₁ : Halted O.below O.join l (spot_at 1 regs₁ heap₁) (listing_ran l regs₁ heap₁ n₁)
     end₁ = halted regs₁ heap₁ s₁ n₁ h₁
 
-    abbrev end₂ : Halted O.below O.join l (spot_at 1 regs₂ heap₂) (ran_of l regs₂ heap₂ n₂)
+    abbrev end₂ : Halted O.below O.join l (spot_at 1 regs₂ heap₂) (listing_ran l regs₂ heap₂ n₂)
     end₂ = halted regs₂ heap₂ s₂ n₂ h₂
 
     agree : Agree (setting O l rows) o end₁.context end₂.context (moves_in l.items end₁.moved (spot_at 1 regs₁ heap₁)) (moves_in l.items end₂.moved (spot_at 1 regs₂ heap₂))
@@ -102,7 +104,7 @@ module _ (O : Order) (l : Listing) (r : Ranges l) (w : WellTyped O.below O.join 
         end₁.moved end₂.moved end₁.at_halt end₂.at_halt end₁.context end₂.context end₁.before_halt end₂.before_halt
 
     -- 2. they agree for him
-    pub tells_nothing : EndsAgree O o l rows (ran_of l regs₁ heap₁ n₁) (ran_of l regs₂ heap₂ n₂)
+    pub tells_nothing : EndsAgree O o l rows (listing_ran l regs₁ heap₁ n₁) (listing_ran l regs₂ heap₂ n₂)
     tells_nothing = record {
       words = λ b kind level word sees.
           ap (λ (m : Machine). get_or m.heap b 0) end₁.machine ∙ agree.words b kind level word sees ∙ sym (ap (λ (m : Machine). get_or m.heap b 0) end₂.machine);
@@ -110,7 +112,7 @@ module _ (O : Order) (l : Listing) (r : Ranges l) (w : WellTyped O.below O.join 
           let x₁ : Shows O o (inside end₁.context) i = subst (λ (c : Now). Shows O o c i) end₁.by_pc shows₁ in
           let x₂ : Shows O o (inside end₂.context) i = subst (λ (c : Now). Shows O o c i) end₂.by_pc shows₂ in
           plain regs₁ heap₁ s₁ n₁ i
-          ∙ ap (λ (m : Machine). read_of m.state.regs i) end₁.machine
+          ∙ ap (λ (m : Machine). read_register m.state.regs i) end₁.machine
           ∙ agree_reads (setting O l rows) o end₁.context end₂.context _ _ agree i x₁.0 x₂.0 x₁.1
-          ∙ sym (plain regs₂ heap₂ s₂ n₂ i ∙ ap (λ (m : Machine). read_of m.state.regs i) end₂.machine);
+          ∙ sym (plain regs₂ heap₂ s₂ n₂ i ∙ ap (λ (m : Machine). read_register m.state.regs i) end₂.machine);
     }

@@ -1,4 +1,5 @@
--- A run that never traps makes as many steps by 01's table as it counts: each is made by a running machine, and the last machine has halted, or still runs and the budget is used.
+-- A run that never traps makes as many steps by 01's table as it counts: each is made by a running machine, and the
+-- last machine has halted, or still runs and the budget is used.
 use Prim.Native.Nat.{ℕ, zero, suc, ◌<◌, ◌≤◌}
 use native.Mathlib.Omega.{arith}
 use Rattle.std.specs.Prelude.{◌≡◌, ◌⊎◌, List}
@@ -50,11 +51,11 @@ module _ (code : List ℕ) where
       from_first (suc i) h = c.running i (omega arith)
 
   -- the count of a run
-  pub counted : (n : ℕ) (m : Machine) → ((k : ℕ) → NoTrap (after code k m)) → Counted n m
+  pub steps_counted : (n : ℕ) (m : Machine) → ((k : ℕ) → NoTrap (after code k m)) → Counted n m
   unfolding after acted
-  counted zero m t = record { leads = refl; running = λ i l. absurd (omega arith); within = omega arith; used = λ q. refl }
-  counted (suc n) m t =
+  steps_counted zero m t = record { leads = refl; running = λ i l. absurd (omega arith); within = omega arith; used = λ q. refl }
+  steps_counted (suc n) m t =
       elim (t 0) [
-        | inl r ↦ one_more n m r (t 1) (counted n (step_of code m) (λ k. t (suc k)))
+        | inl r ↦ one_more n m r (t 1) (steps_counted n (step_of code m) (λ k. t (suc k)))
         | inr h ↦ halted_counted (suc n) m h
       ]

@@ -1,8 +1,9 @@
--- Two runs that agree for an observer and stand at one place do the same item. Then they agree again, and stand at one place; or they took two ways of a branch on a register that he does not see, and stand apart.
+-- Two runs that agree for an observer and stand at one place do the same item. Then they agree again, and stand at one
+-- place; or they took two ways of a branch on a register that he does not see, and stand apart.
 use Rattle.std.specs.Prelude.{ℕ, ◌+◌, ◌≡◌, refl, Bool, List}
 use Rattle.std.proofs.Common.{arith, sym, ap, ◌∙◌, inl, inr}
 use Rattle.std.proofs.Math.Bool.{true, false}
-use Rattle.choice.specs.Pick.{pick, both}
+use Rattle.choice.specs.Pick.{pick, both_ways}
 use Rattle.rules.specs.Context.{Context}
 use Rattle.checker.specs.Judgement.{inside}
 use Rattle.sound.specs.Items.{Spot, spot_at}
@@ -22,7 +23,7 @@ module _ {A : Type 0} (P : A → A → Type 0) (x y x' y' : A) where
   by_one false p q = q
 
   by_two : (t t' : Bool) → P x x' → P x y' → P y x' → P y y' → P (pick t x y) (pick t' x' y')
-  by_two t t' p q r u = both (λ (z : A). P z (pick t' x' y')) t x y (both (P x) t' x' y' p q) (both (P y) t' x' y' r u)
+  by_two t t' p q r u = both_ways (λ (z : A). P z (pick t' x' y')) t x y (both_ways (P x) t' x' y' p q) (both_ways (P y) t' x' y' r u)
 
 module _ (S : Setting) (o : ℕ) where
   -- two runs agree, each in the context of its place, and stand together or apart

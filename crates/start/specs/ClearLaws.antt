@@ -6,8 +6,9 @@ use Rattle.choice.specs.Pick.{pick, is_true, is_equal, each_way, if_equal, if_le
 use Rattle.listing.specs.Listing.{Field, Register, Each}
 use Rattle.start.specs.declared.faults.Fault.{Fault}
 use Rattle.start.specs.Numbers.{BAD_REGISTER}
-use Rattle.start.specs.Start.{Row, shape_of, fault_of, passed, unless, or_else, first_of, any_of, is_row, is_block, is_of_kind, BlockWord, word_of, words_from, words_of, word_fault, block_fault, fields_fault, register_fault, registers_fault}
-use Rattle.start.specs.Meaning.{row_in, field_of, field_in, Block, Word, Holds, HoldsRegister, GoodWords, GoodRegisters}
+use Rattle.start.specs.Rows.{Row, shape_of}
+use Rattle.start.specs.Start.{fault_of, passed, unless, or_else, first_of, any_of, is_row, is_block, is_of_kind, BlockWord, block_word, words_from, block_words, word_fault, block_fault, fields_fault, register_fault, registers_fault}
+use Rattle.start.specs.Meaning.{row_in, field_with, field_in, Block, Word, Holds, HoldsRegister, GoodWords, GoodRegisters}
 
 -- an answer that is no refusal
 abbrev pub Clear : Fault → Type 0
@@ -112,17 +113,17 @@ unfolding words_from
 words_length a [] = refl
 words_length a (f ∷ fields) = ap suc (words_length (a + 1) fields)
 
-pub word_at : (a : ℕ) (fields : List Field) (c : ℕ) (d : BlockWord) → c < length fields → get_or (words_from a fields) c d ≡ word_of (a + c) (field_in fields c)
+pub word_at : (a : ℕ) (fields : List Field) (c : ℕ) (d : BlockWord) → c < length fields → get_or (words_from a fields) c d ≡ block_word (a + c) (field_in fields c)
 unfolding words_from
 word_at a [] c d h = absurd (omega arith)
-word_at a (f ∷ fields) zero d h = let here : a ≡ a + 0 = omega arith in ap (λ (n : ℕ). word_of n f) here
+word_at a (f ∷ fields) zero d h = let here : a ≡ a + 0 = omega arith in ap (λ (n : ℕ). block_word n f) here
 word_at a (f ∷ fields) (suc c) d h =
     let there : a + 1 + c ≡ a + suc c = omega arith in
-    word_at (a + 1) fields c d (omega arith) ∙ ap (λ (n : ℕ). word_of n (field_in fields c)) there
+    word_at (a + 1) fields c d (omega arith) ∙ ap (λ (n : ℕ). block_word n (field_in fields c)) there
 
 -- a word that is no field's
 abbrev pub no_word : BlockWord
-no_word = word_of 0 (field_of 0 0)
+no_word = block_word 0 (field_with 0 0)
 
 module _ (shapes : List (List Field)) (rows : List Row) (heap : List ℕ) where
   -- what a word holds, and what the words of a block hold
@@ -130,7 +131,7 @@ module _ (shapes : List (List Field)) (rows : List Row) (heap : List ℕ) where
   HoldsWord w = Holds rows w.field.kind (get_or heap w.address 0)
 
   abbrev pub HoldsRow : Row → Type 0
-  HoldsRow r = Each HoldsWord (words_of shapes r)
+  HoldsRow r = Each HoldsWord (block_words shapes r)
 
   pub word_clear : (w : BlockWord) → Clear (word_fault rows heap w) ↔ HoldsWord w
   unfolding word_fault
@@ -138,29 +139,29 @@ module _ (shapes : List (List Field)) (rows : List Row) (heap : List ℕ) where
 
   pub block_clear : (r : Row) → Clear (block_fault shapes rows heap r) ↔ HoldsRow r
   unfolding block_fault
-  block_clear r = clear_each (word_fault rows heap) HoldsWord word_clear (words_of shapes r)
+  block_clear r = clear_each (word_fault rows heap) HoldsWord word_clear (block_words shapes r)
 
   fields_clear : Clear (fields_fault shapes rows heap) ↔ Each HoldsRow rows
   unfolding fields_fault
   fields_clear = clear_each (block_fault shapes rows heap) HoldsRow block_clear rows
 
   -- what the c-th word of a row holds is what a word of Meaning does
-  pub held_there : (a kind level : ℕ) (w : Word shapes rows a kind level) → HoldsWord (get_or (words_of shapes (row_in rows w.row)) w.c no_word) → Holds rows kind (get_or heap a 0)
+  pub held_there : (a kind level : ℕ) (w : Word shapes rows a kind level) → HoldsWord (get_or (block_words shapes (row_in rows w.row)) w.c no_word) → Holds rows kind (get_or heap a 0)
   held_there a kind level w held =
       let r = row_in rows w.row in
-      let same : get_or (words_of shapes r) w.c no_word ≡ word_of a (field_of kind level) =
-      word_at r.base (shape_of shapes r.shape) w.c no_word w.is_field ∙ (λ i. word_of (w.address i) (w.field i)) in
+      let same : get_or (block_words shapes r) w.c no_word ≡ block_word a (field_with kind level) =
+      word_at r.base (shape_of shapes r.shape) w.c no_word w.is_field ∙ (λ i. block_word (w.address i) (w.field i)) in
       subst HoldsWord same held
 
   pub held_in : (a kind level : ℕ) (w : Word shapes rows a kind level) → HoldsRow (row_in rows w.row) → Holds rows kind (get_or heap a 0)
   held_in a kind level w all =
       let r = row_in rows w.row in
-      let is : w.c < length (words_of shapes r) = omega (arith, w.is_field, words_length r.base (shape_of shapes r.shape)) in
-      held_there a kind level w (each_to HoldsWord no_word (words_of shapes r) all w.c is)
+      let is : w.c < length (block_words shapes r) = omega (arith, w.is_field, words_length r.base (shape_of shapes r.shape)) in
+      held_there a kind level w (each_to HoldsWord no_word (block_words shapes r) all w.c is)
 
   -- and the other way round
-  unfoldable pub word_there : (i c : ℕ) → i < length rows → c < length (words_of shapes (row_in rows i))
-      → let w = get_or (words_of shapes (row_in rows i)) c no_word in Word shapes rows w.address w.field.kind w.field.level
+  unfoldable pub word_there : (i c : ℕ) → i < length rows → c < length (block_words shapes (row_in rows i))
+      → let w = get_or (block_words shapes (row_in rows i)) c no_word in Word shapes rows w.address w.field.kind w.field.level
   word_there i c h l =
       let r = row_in rows i in
       let fields = shape_of shapes r.shape in
@@ -171,7 +172,7 @@ module _ (shapes : List (List Field)) (rows : List Row) (heap : List ℕ) where
   pub words_clear : Clear (fields_fault shapes rows heap) ↔ GoodWords shapes rows heap
   words_clear = (
     λ e a kind level w. held_in a kind level w (each_to HoldsRow _ rows (fields_clear.0 e) w.row w.is_a_row),
-    λ g. fields_clear.1 (each_from HoldsRow _ rows (λ i h. each_from HoldsWord no_word (words_of shapes (row_in rows i)) (λ c l. g _ _ _ (word_there i c h l)))),
+    λ g. fields_clear.1 (each_from HoldsRow _ rows (λ i h. each_from HoldsWord no_word (block_words shapes (row_in rows i)) (λ c l. g _ _ _ (word_there i c h l)))),
   )
 
 -- 33: r0 and the listed registers

@@ -1,5 +1,6 @@
--- What a start is, and when it passes. To believe the start check, read Numbers, Start, Meaning, Refusal and Theorems; the rest are laws.
+-- What a start is, and when it passes. To believe the start check, read Numbers, Rows, Start, Meaning, Refusal and Theorems; the rest are laws.
 pub mod Numbers  -- the refusals, each named once
+pub mod Rows  -- the rows of a block table
 pub mod Start  -- which start passes, and the first refusal with its place
 pub mod Meaning  -- what a passing start means
 pub mod Refusal  -- what a refusal means: it is the first

@@ -1,17 +1,18 @@
--- What a passing start means, of shapes, the registers that the first label lists, a heap, block rows and start registers. Levels are any numbers. Theorems: a start passes exactly where this holds.
+-- What a passing start means, of shapes, the registers that the first label lists, a heap, block rows and start
+-- registers. Levels are any numbers. Theorems: a start passes exactly where this holds.
 use Rattle.std.specs.Prelude.{ℕ, ◌+◌, ◌-◌, ◌<◌, ◌≤◌, ◌≡◌, List, length, get_or}
 use Rattle.listing.specs.Listing.{Field, Register, Each}
-use Rattle.start.specs.Start.{Row, shape_of, size_of}
+use Rattle.start.specs.Rows.{Row, shape_of, block_size}
 
 -- row i, and field c of a shape
 abbrev pub row_in : List Row → ℕ → Row
 row_in rows i = get_or rows i (record { base = 0; shape = 0 })
 
-abbrev pub field_of : ℕ → ℕ → Field
-field_of kind level = record { kind = kind; level = level }
+abbrev pub field_with : ℕ → ℕ → Field
+field_with kind level = record { kind = kind; level = level }
 
 abbrev pub field_in : List Field → ℕ → Field
-field_in fields c = get_or fields c (field_of 0 0)
+field_in fields c = get_or fields c (field_with 0 0)
 
 -- a is the base of a block of shape s
 pub record Block (rows : List Row) (a s : ℕ) : Type 0 where
@@ -25,9 +26,9 @@ pub record Word (shapes : List (List Field)) (rows : List Row) (a kind level : �
   pub row : ℕ
   pub is_a_row : row < length rows
   pub c : ℕ
-  pub is_field : c < size_of shapes (row_in rows row)
+  pub is_field : c < block_size shapes (row_in rows row)
   pub address : (row_in rows row).base + c ≡ a
-  pub field : field_in (shape_of shapes (row_in rows row).shape) c ≡ field_of kind level
+  pub field : field_in (shape_of shapes (row_in rows row).shape) c ≡ field_with kind level
 
 -- a value of a pointer kind k is the base of a block of shape k − 1
 abbrev pub Holds : List Row → ℕ → ℕ → Type 0
@@ -39,9 +40,9 @@ HoldsRegister rows regs r = Holds rows r.kind (get_or regs r.index 0)
 -- bases rise strictly, blocks lie in a heap of so many words and don't overlap, shapes exist
 pub record GoodRows (shapes : List (List Field)) (words : ℕ) (rows : List Row) : Type 0 where
   pub exists : (i : ℕ) → i < length rows → (row_in rows i).shape < length shapes
-  pub lies : (i : ℕ) → i < length rows → (row_in rows i).base + size_of shapes (row_in rows i) ≤ words
+  pub lies : (i : ℕ) → i < length rows → (row_in rows i).base + block_size shapes (row_in rows i) ≤ words
   pub rises : (i j : ℕ) → i < j → j < length rows → (row_in rows i).base < (row_in rows j).base
-  pub apart : (i j : ℕ) → i < j → j < length rows → (row_in rows i).base + size_of shapes (row_in rows i) ≤ (row_in rows j).base
+  pub apart : (i j : ℕ) → i < j → j < length rows → (row_in rows i).base + block_size shapes (row_in rows i) ≤ (row_in rows j).base
 
 -- each block word of a pointer kind holds what its kind says
 abbrev pub GoodWords : List (List Field) → List Row → List ℕ → Type 0

@@ -1,4 +1,5 @@
--- Where a shape's fields and the first label's registers stand among the numbers: one law for each way through the code that finds them. `shapes`, `listeds` and `firsts` hold the laws for a search.
+-- Where a shape's fields and the first label's registers stand among the numbers: one law for each way through the code
+-- that finds them. `shapes`, `listeds` and `firsts` hold the laws for a search.
 use Rattle.std.specs.Prelude.{ℕ, ◌+◌, ◌<◌, ◌≤◌, ◌≡◌, length}
 use Rattle.std.proofs.Common.{arith, ◌∙◌}
 use Rattle.std.proofs.Math.Path.{sym, ap}
@@ -8,7 +9,8 @@ use Rattle.listing.specs.Limits.{SHAPES, FIELDS, LABELS, STACK, REGISTERS, ITEMS
 use Rattle.listing.specs.Listing.{Field, Register, LabelContext}
 use Rattle.listing.specs.Parts.{parts_from, behind, count_at, field_at, shape_at, behind_shape, register_at, registers_at, label_at, behind_label, item_at, behind_item, labels_place, items_place, shapes_in, labels_in, items_in}
 use Rattle.listing.specs.PartLaws.{parts_more, parts_none, parts_length, part_stands, no_part}
-use Rattle.start.specs.Start.{shape_of, listed_by, listed_at, listed_first, first_listed}
+use Rattle.start.specs.Rows.{shape_of}
+use Rattle.start.specs.Start.{listed_by, listed_at, listed_first, first_listed}
 
 -- so many fields, and so many registers, from a place on
 abbrev pub fields_in : List ℕ → ℕ → ℕ → List Field

@@ -3,8 +3,9 @@ use Rattle.std.specs.Prelude.{ℕ, ◌+◌, ◌<◌, ◌≤◌, ◌≡◌, List,
 use Rattle.std.proofs.Common.{arith, sym, ap, ◌∙◌}
 use Rattle.choice.specs.Pick.{if_less}
 use Rattle.listing.specs.Listing.{Field, Register}
-use Rattle.start.specs.Start.{Row, shape_of, passed, register_fault, rows_fault, fields_fault, registers_fault, start_in}
-use Rattle.start.specs.Meaning.{row_in, field_of, field_in, Block, Word, GoodRows, Passing}
+use Rattle.start.specs.Rows.{Row, shape_of}
+use Rattle.start.specs.Start.{passed, register_fault, rows_fault, fields_fault, registers_fault, start_in}
+use Rattle.start.specs.Meaning.{row_in, field_with, field_in, Block, Word, GoodRows, Passing}
 use Rattle.start.specs.Refusal.{register_in, Refused, bad_row, bad_field, bad_r0, bad_register}
 use Rattle.start.specs.ClearLaws.{Clear, else_clear, else_proper, first_proper, words_clear, registers_clear}
 use Rattle.start.specs.RowLaws.{rows_clear, word_inside, word_before}
@@ -43,7 +44,7 @@ refused_below shapes listed heap rows regs number place top (bad_r0 e g w p n) r
 refused_below shapes listed heap rows regs number place top (bad_register e g w p b) r h z l = omega (arith, b.index, l b.n b.is_listed)
 
 -- a field of a block is a word
-pub block_word : (shapes : List (List Field)) (rows : List Row) (a s c kind level : ℕ) → Block rows a s → c < length (shape_of shapes s) → field_in (shape_of shapes s) c ≡ field_of kind level
+pub block_word : (shapes : List (List Field)) (rows : List Row) (a s c kind level : ℕ) → Block rows a s → c < length (shape_of shapes s) → field_in (shape_of shapes s) c ≡ field_with kind level
     → Word shapes rows (a + c) kind level
 block_word shapes rows a s c kind level b h e =
     let fields : shape_of shapes (row_in rows b.row).shape ≡ shape_of shapes s = ap (shape_of shapes) b.shape in
@@ -66,5 +67,5 @@ module _ (shapes : List (List Field)) (words : ℕ) (rows : List Row) (good : Go
       let row : v.row ≡ w.row = omega arith in
       let base : (row_in rows v.row).base ≡ (row_in rows w.row).base = ap (λ (i : ℕ). (row_in rows i).base) row in
       let c : v.c ≡ w.c = omega (arith, v.address, w.address) in
-      let same : field_of k l ≡ field_of k' l' = sym v.field ∙ (λ i. field_in (shape_of shapes (row_in rows (row i)).shape) (c i)) ∙ w.field in
+      let same : field_with k l ≡ field_with k' l' = sym v.field ∙ (λ i. field_in (shape_of shapes (row_in rows (row i)).shape) (c i)) ∙ w.field in
       (ap (λ (f : Field). f.kind) same, ap (λ (f : Field). f.level) same)))

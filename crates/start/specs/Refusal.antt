@@ -1,8 +1,9 @@
--- What a refusal means: it is the first. The rows before it are good; then all rows are, and the words at lower addresses; then all words are, and the registers listed before it.
+-- What a refusal means: it is the first. The rows before it are good; then all rows are, and the words at lower
+-- addresses; then all words are, and the registers listed before it.
 use Rattle.std.specs.Prelude.{ℕ, ◌+◌, ◌<◌, ◌≡◌, List, length, get_or, take}
 use Rattle.listing.specs.Listing.{Field, Register}
 use Rattle.start.specs.Numbers.{BAD_ROW, BAD_FIELD, BAD_REGISTER}
-use Rattle.start.specs.Start.{Row}
+use Rattle.start.specs.Rows.{Row}
 use Rattle.start.specs.Meaning.{Word, Holds, HoldsRegister, GoodRows, GoodWords}
 
 -- row i, with those before it, is bad

@@ -10,7 +10,8 @@ use Rattle.choice.specs.Pick.{each_way, if_equal, if_less}
 use Rattle.listing.specs.Listing.{Field, Register}
 use Rattle.start.specs.declared.faults.Fault.{Fault}
 use Rattle.start.specs.Numbers.{BAD_ROW, BAD_FIELD, BAD_REGISTER}
-use Rattle.start.specs.Start.{Row, fault_of, unless, or_else, first_of, good_row, least_after, rows_from, words_of, word_fault, block_fault, fields_fault, register_fault, registers_fault, rows_fault, start_in}
+use Rattle.start.specs.Rows.{Row}
+use Rattle.start.specs.Start.{fault_of, unless, or_else, first_of, good_row, least_after, rows_from, block_words, word_fault, block_fault, fields_fault, register_fault, registers_fault, rows_fault, start_in}
 use Rattle.start.specs.Meaning.{row_in, Word, Holds, GoodRows, GoodWords}
 use Rattle.start.specs.Refusal.{FirstBadRow, FirstBadWord, FirstBadRegister, register_in, Refused, bad_row, bad_field, bad_r0, bad_register}
 use Rattle.start.specs.ClearLaws.{Clear, differ, pick_clear, unless_clear, no_word, HoldsWord, word_clear, block_clear, held_there, held_in, word_there, words_clear, register_clear}
@@ -107,10 +108,10 @@ module _ (shapes : List (List Field)) (words : ℕ) where
 -- the words
 module _ (shapes : List (List Field)) (rows : List Row) (heap : List ℕ) (words : ℕ) (good : GoodRows shapes words rows) where
   -- those at lower addresses than word c of row n are words of the rows before it, or words before it in the row
-  module _ (n c : ℕ) (is_a_row : n < length rows) (is_IsWord : c < length (words_of shapes (row_in rows n)))
+  module _ (n c : ℕ) (is_a_row : n < length rows) (is_IsWord : c < length (block_words shapes (row_in rows n)))
       (before : (j : ℕ) → j < n → Clear (block_fault shapes rows heap (row_in rows j)))
-      (here : (j : ℕ) → j < c → Clear (word_fault rows heap (get_or (words_of shapes (row_in rows n)) j no_word))) where
-    lower_hold : (b k l : ℕ) → b < (get_or (words_of shapes (row_in rows n)) c no_word).address → Word shapes rows b k l → Holds rows k (get_or heap b 0)
+      (here : (j : ℕ) → j < c → Clear (word_fault rows heap (get_or (block_words shapes (row_in rows n)) j no_word))) where
+    lower_hold : (b k l : ℕ) → b < (get_or (block_words shapes (row_in rows n)) c no_word).address → Word shapes rows b k l → Holds rows k (get_or heap b 0)
     unfolding word_there
     lower_hold b k l h v =
         let w = word_there shapes rows heap n c is_a_row is_IsWord in
@@ -123,14 +124,14 @@ module _ (shapes : List (List Field)) (rows : List Row) (heap : List ℕ) (words
         let base : (row_in rows n).base ≡ (row_in rows v.row).base = ap (λ (i : ℕ). (row_in rows i).base) same in
         let less : v.c < c = omega (arith, h, w.address, v.address) in
         held_there shapes rows heap b k l v
-        (subst (λ (i : ℕ). HoldsWord shapes rows heap (get_or (words_of shapes (row_in rows i)) v.c no_word)) same
+        (subst (λ (i : ℕ). HoldsWord shapes rows heap (get_or (block_words shapes (row_in rows i)) v.c no_word)) same
         ((word_clear shapes rows heap _).0 (here v.c less)))))
 
   field_refused : Faulty (fields_fault shapes rows heap) → (a : ℕ) × (fields_fault shapes rows heap ≡ fault_of BAD_FIELD a) × FirstBadWord shapes rows heap a
   unfolding fields_fault block_fault word_fault
   field_refused f =
       let row = first_faulty (block_fault shapes rows heap) _ rows f in
-      let l = words_of shapes (row_in rows row.n) in
+      let l = block_words shapes (row_in rows row.n) in
       let word = first_faulty (word_fault rows heap) no_word l row.fails in
       let w = get_or l word.n no_word in (
         w.address,

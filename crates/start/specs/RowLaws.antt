@@ -1,4 +1,5 @@
--- 31: a search of the rows is clear exactly where the rows are good. One row is taken at a time; what the rows behind it owe to those before it is the least base that they leave.
+-- 31: a search of the rows is clear exactly where the rows are good. One row is taken at a time; what the rows behind
+-- it owe to those before it is the least base that they leave.
 use Prim.Native.Nat.{ℕ, zero, suc, ◌+◌, ◌<◌, ◌≤◌}
 use native.Mathlib.Omega.{arith}
 use Rattle.std.specs.Prelude.{◌≡◌, ◌↔◌, Bool, length}
@@ -9,7 +10,8 @@ use borrow.Author.Tests.{ltb-true, lt-ltb}
 use Rattle.choice.specs.Pick.{not_less, if_less}
 use Rattle.listing.specs.Listing.{Field}
 use Rattle.start.specs.Numbers.{BAD_ROW}
-use Rattle.start.specs.Start.{Row, size_of, good_row, least_after, rows_from}
+use Rattle.start.specs.Rows.{Row, block_size}
+use Rattle.start.specs.Start.{good_row, least_after, rows_from}
 use Rattle.start.specs.Meaning.{row_in, Word, GoodRows}
 use Rattle.start.specs.ClearLaws.{Clear, differ, pick_clear}
 
@@ -17,23 +19,23 @@ module _ (shapes : List (List Field)) (words : ℕ) where
   -- a row by itself
   record GoodRow (least : ℕ) (r : Row) : Type 0 where
     high : least ≤ r.base
-    lies : r.base + size_of shapes r ≤ words
+    lies : r.base + block_size shapes r ≤ words
     exists : r.shape < length shapes
 
   row_is_good : (least : ℕ) (r : Row) → (good_row shapes words least r ≡ true) ↔ GoodRow least r
   unfolding good_row
   row_is_good least r = (
     if_less (λ (b : Bool). b ≡ true → GoodRow least r) r.base least _ _ (λ h. differ)
-        (λ high. if_less (λ (b : Bool). b ≡ true → GoodRow least r) words (r.base + size_of shapes r) _ _ (λ h. differ)
+        (λ high. if_less (λ (b : Bool). b ≡ true → GoodRow least r) words (r.base + block_size shapes r) _ _ (λ h. differ)
         (λ lies e. record { high = high; lies = lies; exists = ltb-true _ _ e })),
     λ g. sym (not_less _ _ true _ _ g.high (not_less _ _ true _ _ g.lies (sym (lt-ltb _ _ g.exists)))),
   )
 
   -- what a row leaves is above its base and behind its block
-  least_is : (r : Row) (b : ℕ) → (least_after shapes r ≤ b) ↔ ((r.base < b) × (r.base + size_of shapes r ≤ b))
+  least_is : (r : Row) (b : ℕ) → (least_after shapes r ≤ b) ↔ ((r.base < b) × (r.base + block_size shapes r ≤ b))
   unfolding least_after
   least_is r b =
-      if_less (λ (n : ℕ). (r.base + n ≤ b) ↔ ((r.base < b) × (r.base + size_of shapes r ≤ b))) (size_of shapes r) 1 1 (size_of shapes r)
+      if_less (λ (n : ℕ). (r.base + n ≤ b) ↔ ((r.base < b) × (r.base + block_size shapes r ≤ b))) (block_size shapes r) 1 1 (block_size shapes r)
       (λ h. (λ l. (omega arith, omega arith), λ p. omega arith))
       (λ h. (λ l. (omega arith, omega arith), λ p. omega arith))
 
@@ -47,7 +49,7 @@ module _ (shapes : List (List Field)) (words : ℕ) where
     more_exists zero h = first.exists
     more_exists (suc i) h = rest.exists i (omega arith)
 
-    more_lies : (i : ℕ) → i < suc (length rows) → (row_in (r ∷ rows) i).base + size_of shapes (row_in (r ∷ rows) i) ≤ words
+    more_lies : (i : ℕ) → i < suc (length rows) → (row_in (r ∷ rows) i).base + block_size shapes (row_in (r ∷ rows) i) ≤ words
     more_lies zero h = first.lies
     more_lies (suc i) h = rest.lies i (omega arith)
 
@@ -57,7 +59,7 @@ module _ (shapes : List (List Field)) (words : ℕ) where
     more_rises zero (suc j) l h = ((least_is r (row_in rows j).base).0 (above j (omega arith))).0
     more_rises (suc i) (suc j) l h = rest.rises i j (omega arith) (omega arith)
 
-    more_apart : (i j : ℕ) → i < j → j < suc (length rows) → (row_in (r ∷ rows) i).base + size_of shapes (row_in (r ∷ rows) i) ≤ (row_in (r ∷ rows) j).base
+    more_apart : (i j : ℕ) → i < j → j < suc (length rows) → (row_in (r ∷ rows) i).base + block_size shapes (row_in (r ∷ rows) i) ≤ (row_in (r ∷ rows) j).base
     unfolding Above
     more_apart i zero l h = absurd (omega arith)
     more_apart zero (suc j) l h = ((least_is r (row_in rows j).base).0 (above j (omega arith))).1

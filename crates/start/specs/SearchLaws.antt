@@ -1,4 +1,5 @@
--- Laws for the code of the start check: one for each way through a loop. The whole answer is that of what is left; `mores` takes what is left apart, and `searches`, `faults`, `bads`, `goods` and `zeros` hold the ways for a search.
+-- Laws for the code of the start check: one for each way through a loop. The whole answer is that of what is left;
+-- `mores` takes what is left apart, and `searches`, `faults`, `bads`, `goods` and `zeros` hold the ways for a search.
 use Rattle.std.specs.Prelude.{ℕ, ◌+◌, ◌-◌, ◌<◌, ◌≤◌, ◌≡◌, Bool, false, List, [], ◌∷◌, length, get_or, ltb, eqb}
 use Rattle.std.proofs.Common.{arith, ◌∙◌}
 use Rattle.std.proofs.Math.Path.{refl, sym, ap}
@@ -11,11 +12,12 @@ use Rattle.listing.specs.Parts.{parts_from, count_at, field_at, register_at, sha
 use Rattle.listing.specs.PartLaws.{parts_more, parts_none, parts_length}
 use Rattle.start.specs.declared.faults.Fault.{Fault}
 use Rattle.start.specs.Numbers.{BAD_ROW, BAD_REGISTER}
-use Rattle.start.specs.Start.{Row, row_at, shape_of, size_of, fault_of, passed, unless, or_else, first_of, good_row, least_after, rows_from, any_of, word_of, words_from, register_fault, registers_fault}
+use Rattle.start.specs.Rows.{Row, row_at, shape_of, block_size}
+use Rattle.start.specs.Start.{fault_of, passed, unless, or_else, first_of, good_row, least_after, rows_from, any_of, block_word, words_from, register_fault, registers_fault}
 use Rattle.start.specs.PartLaws.{fields_in, registers_in, shapes_counted}
 
-abbrev pub row_of : ℕ → ℕ → Row
-row_of base s = record { base = base; shape = s }
+abbrev pub row_with : ℕ → ℕ → Row
+row_with base s = record { base = base; shape = s }
 
 -- so many rows from a place on
 abbrev pub rows_left : List ℕ → ℕ → ℕ → List Row
@@ -37,11 +39,11 @@ pub registers_start : (ns : List ℕ) (at left : ℕ) → 0 < left → Starts (r
 registers_start ns = parts_start (register_at ns) (λ p. p + 3)
 
 module _ (ns : List ℕ) (at left address : ℕ) where
-  pub words_more : 0 < left → words_from address (fields_in ns at left) ≡ word_of address (field_at ns at) ∷ words_from (address + 1) (fields_in ns (at + 2) (left - 1))
+  pub words_more : 0 < left → words_from address (fields_in ns at left) ≡ block_word address (field_at ns at) ∷ words_from (address + 1) (fields_in ns (at + 2) (left - 1))
   unfolding words_from
   words_more h = ap (words_from address) (parts_more (field_at ns) (λ p. p + 2) at left h)
 
-  pub words_start : 0 < left → Starts (word_of address (field_at ns at)) (words_from address (fields_in ns at left))
+  pub words_start : 0 < left → Starts (block_word address (field_at ns at)) (words_from address (fields_in ns at left))
   words_start h = record { rest = words_from (address + 1) (fields_in ns (at + 2) (left - 1)); split = words_more h }
 
   pub words_none : left ≤ 0 → words_from address (fields_in ns at left) ≡ []
@@ -118,32 +120,32 @@ module _ (shapes : List (List Field)) (words i least : ℕ) (l : List Row) (whol
 pub ruleset bads = (row_turn, row_found, row_none)
 
 -- whether a row is good, and the least base that it leaves, by the count of its shape's fields
-pub row_low : (shapes : List (List Field)) (words least base s : ℕ) → base < least → false ≡ good_row shapes words least (row_of base s)
+pub row_low : (shapes : List (List Field)) (words least base s : ℕ) → base < least → false ≡ good_row shapes words least (row_with base s)
 unfolding good_row
 row_low shapes words least base s h = is_less base least _ _ _ h refl
 
 module _ (ns : List ℕ) (base s at count : ℕ) (fields : shape_of (shapes_in ns) s ≡ fields_in ns at count) where
-  size_is : size_of (shapes_in ns) (row_of base s) ≡ count
+  size_is : block_size (shapes_in ns) (row_with base s) ≡ count
   size_is = ap length fields ∙ parts_length (field_at ns) (λ p. p + 2) at count
 
   module _ (words least : ℕ) (high : least ≤ base) where
-    pub row_out : (b : Bool) → b ≡ ltb words (base + count) → b ≡ true → false ≡ good_row (shapes_in ns) words least (row_of base s)
+    pub row_out : (b : Bool) → b ≡ ltb words (base + count) → b ≡ true → false ≡ good_row (shapes_in ns) words least (row_with base s)
     unfolding good_row
-    row_out b e p = not_less base least _ _ _ high (is_less words (base + size_of (shapes_in ns) (row_of base s)) _ _ _ (omega (arith, size_is, ltb-true words (base + count) (sym e ∙ p))) refl)
+    row_out b e p = not_less base least _ _ _ high (is_less words (base + block_size (shapes_in ns) (row_with base s)) _ _ _ (omega (arith, size_is, ltb-true words (base + count) (sym e ∙ p))) refl)
 
-    pub row_in : (b : Bool) (n : ℕ) → b ≡ ltb words (base + count) → b ≡ false → n ≡ count_at SHAPES ns 1 → ltb s n ≡ good_row (shapes_in ns) words least (row_of base s)
+    pub row_in : (b : Bool) (n : ℕ) → b ≡ ltb words (base + count) → b ≡ false → n ≡ count_at SHAPES ns 1 → ltb s n ≡ good_row (shapes_in ns) words least (row_with base s)
     unfolding good_row
     row_in b n q p e =
         not_less base least _ _ _ high
-        (not_less words (base + size_of (shapes_in ns) (row_of base s)) _ _ _ (omega (arith, size_is, ltb-false words (base + count) (sym q ∙ p))) (ap (ltb s) (shapes_counted ns s n e)))
+        (not_less words (base + block_size (shapes_in ns) (row_with base s)) _ _ _ (omega (arith, size_is, ltb-false words (base + count) (sym q ∙ p))) (ap (ltb s) (shapes_counted ns s n e)))
 
-  pub least_next : count < 1 → base + 1 ≡ least_after (shapes_in ns) (row_of base s)
+  pub least_next : count < 1 → base + 1 ≡ least_after (shapes_in ns) (row_with base s)
   unfolding least_after
-  least_next h = ap (λ (n : ℕ). base + n) (is_less (size_of (shapes_in ns) (row_of base s)) 1 1 1 _ (omega (arith, size_is)) refl)
+  least_next h = ap (λ (n : ℕ). base + n) (is_less (block_size (shapes_in ns) (row_with base s)) 1 1 1 _ (omega (arith, size_is)) refl)
 
-  pub least_behind : 1 ≤ count → base + count ≡ least_after (shapes_in ns) (row_of base s)
+  pub least_behind : 1 ≤ count → base + count ≡ least_after (shapes_in ns) (row_with base s)
   unfolding least_after
-  least_behind h = ap (λ (n : ℕ). base + n) (not_less (size_of (shapes_in ns) (row_of base s)) 1 count 1 _ (omega (arith, size_is)) (sym size_is))
+  least_behind h = ap (λ (n : ℕ). base + n) (not_less (block_size (shapes_in ns) (row_with base s)) 1 count 1 _ (omega (arith, size_is)) (sym size_is))
 
 pub ruleset goods = (row_low, row_out, row_in, least_next, least_behind)
 

@@ -1,31 +1,15 @@
--- 01, "Erased code and the machine" (block rows) and refusals 31, 32 and 33: whether a heap, a block table and start registers fit a listing. Any numbers have shapes, labels and items (`shapes_in`, `labels_in`, `items_in`), so any start has an answer. Meaning says what a passing start is.
-use Rattle.std.specs.Prelude.{ℕ, ◌+◌, ◌-◌, ◌/◌, Bool, true, false, List, [], ◌∷◌, length, get_or, ltb, eqb}
+-- 01, "Erased code and the machine" (block rows) and refusals 31, 32 and 33: whether a heap, a block table and start
+-- registers fit a listing. Any numbers have shapes, labels and items (`shapes_in`, `labels_in`, `items_in`), so any start
+-- has an answer. Meaning says what a passing start is.
+use Rattle.std.specs.Prelude.{ℕ, ◌+◌, ◌-◌, Bool, true, false, List, [], ◌∷◌, length, get_or, ltb, eqb}
 use Rattle.choice.specs.Pick.{pick}
 use Rattle.listing.specs.declared.items.Item.{Item}
 use Rattle.listing.specs.declared.items.Item.TheVariants.{Halt, Jmp, Bnz, Load, Store, Compute, ComputeImmediate, Cpush, Cjmp, Label}
 use Rattle.listing.specs.Listing.{Field, Register, LabelContext}
-use Rattle.listing.specs.Parts.{parts_from, shapes_in, labels_in, items_in}
+use Rattle.listing.specs.Parts.{shapes_in, labels_in, items_in}
 use Rattle.start.specs.declared.faults.Fault.{Fault}
+use Rattle.start.specs.Rows.{Row, rows_of, shape_of, block_size}
 use Rattle.start.specs.Numbers.{BAD_ROW, BAD_FIELD, BAD_REGISTER}
-
--- a row of the block table: a base and a shape number, both words
-pub record Row : Type 0 where
-  pub base : ℕ
-  pub shape : ℕ
-
-abbrev pub row_at : List ℕ → ℕ → Row
-row_at blocks at = record { base = get_or blocks at 0; shape = get_or blocks (at + 1) 0 }
-
--- the rows of a table, two words each; a last odd word is no row
-unfoldable pub rows_of : List ℕ → List Row
-rows_of blocks = parts_from (row_at blocks) (λ p. p + 2) 0 (length blocks / 2)
-
--- the fields of a shape, none where it does not exist; a block has a word per field
-abbrev pub shape_of : List (List Field) → ℕ → List Field
-shape_of shapes s = get_or shapes s []
-
-abbrev pub size_of : List (List Field) → Row → ℕ
-size_of shapes r = length (shape_of shapes r.shape)
 
 -- a refusal's number and place; 0 and 0 is passed
 abbrev pub fault_of : ℕ → ℕ → Fault
@@ -45,15 +29,16 @@ unfoldable pub first_of : {A : Type 0} → (A → Fault) → List A → Fault
 first_of f [] = passed
 first_of f (x ∷ xs) = or_else (f x) (first_of f xs)
 
--- 31. A row is good behind good ones where its base is not below the least one that they leave, its block lies in the heap of so many words, and its shape exists
+-- 31. A row is good behind good ones where its base is not below the least one that they leave, its block lies in the
+-- heap of so many words, and its shape exists
 unfoldable pub good_row : List (List Field) → ℕ → ℕ → Row → Bool
 good_row shapes words least r =
     pick (ltb r.base least) false
-    (pick (ltb words (r.base + size_of shapes r)) false (ltb r.shape (length shapes)))
+    (pick (ltb words (r.base + block_size shapes r)) false (ltb r.shape (length shapes)))
 
 -- the least base that a row leaves to the next: bases rise strictly, and blocks don't overlap
 unfoldable pub least_after : List (List Field) → Row → ℕ
-least_after shapes r = r.base + pick (ltb (size_of shapes r) 1) 1 (size_of shapes r)
+least_after shapes r = r.base + pick (ltb (block_size shapes r) 1) 1 (block_size shapes r)
 
 -- the first bad row, from row i on
 unfoldable pub rows_from : List (List Field) → ℕ → ℕ → ℕ → List Row → Fault
@@ -81,24 +66,25 @@ pub record BlockWord : Type 0 where
   pub address : ℕ
   pub field : Field
 
-abbrev pub word_of : ℕ → Field → BlockWord
-word_of address field = record { address = address; field = field }
+abbrev pub block_word : ℕ → Field → BlockWord
+block_word address field = record { address = address; field = field }
 
 unfoldable pub words_from : ℕ → List Field → List BlockWord
 words_from address [] = []
-words_from address (f ∷ fields) = word_of address f ∷ words_from (address + 1) fields
+words_from address (f ∷ fields) = block_word address f ∷ words_from (address + 1) fields
 
-abbrev pub words_of : List (List Field) → Row → List BlockWord
-words_of shapes r = words_from r.base (shape_of shapes r.shape)
+abbrev pub block_words : List (List Field) → Row → List BlockWord
+block_words shapes r = words_from r.base (shape_of shapes r.shape)
 
 -- a pointer field holds the base of a block of its shape
 unfoldable pub word_fault : List Row → List ℕ → BlockWord → Fault
 word_fault rows heap w = unless BAD_FIELD w.address (is_of_kind rows w.field.kind (get_or heap w.address 0))
 
 unfoldable pub block_fault : List (List Field) → List Row → List ℕ → Row → Fault
-block_fault shapes rows heap r = first_of (word_fault rows heap) (words_of shapes r)
+block_fault shapes rows heap r = first_of (word_fault rows heap) (block_words shapes r)
 
--- 33. The registers that the first label lists, which in a listing stand by rising index; it is the label that item 0 places. None where item 0 is no label, or one that the listing does not have
+-- 33. The registers that the first label lists, which in a listing stand by rising index; it is the label that item 0
+-- places. None where item 0 is no label, or one that the listing does not have
 abbrev pub listed_by : List LabelContext → ℕ → List Register
 listed_by labels l = (get_or labels l (record { level = 0; stack = []; registers = [] })).registers
 

@@ -1,11 +1,13 @@
--- The start check's theorems: a start passes exactly where Meaning's statements hold, and a refusal is the first (Refusal). In a passing start each block word belongs to one field of one block, and lies in the heap.
+-- The start check's theorems: a start passes exactly where Meaning's statements hold, and a refusal is the first
+-- (Refusal). In a passing start each block word belongs to one field of one block, and lies in the heap.
 use Rattle.std.specs.Prelude.{ℕ, ◌+◌, ◌<◌, ◌≤◌, ◌≡◌, List, length}
 use Rattle.std.proofs.Common.{arith, ap, subst}
 use Rattle.listing.specs.Listing.{Field}
 use Rattle.listing.specs.Parts.{shapes_in}
 use Rattle.start.specs.declared.faults.Fault.{Fault}
-use Rattle.start.specs.Start.{Row, rows_of, shape_of, first_listed, fault_of, passed, start_of}
-use Rattle.start.specs.Meaning.{field_of, field_in, Block, Word, GoodRows, Passing}
+use Rattle.start.specs.Rows.{Row, rows_of, shape_of}
+use Rattle.start.specs.Start.{first_listed, fault_of, passed, start_of}
+use Rattle.start.specs.Meaning.{field_with, field_in, Block, Word, GoodRows, Passing}
 use Rattle.start.specs.Refusal.{register_in, Refused}
 use Rattle.start.specs.RowLaws.{word_inside}
 use Rattle.start.specs.RefusalLaws.{start_refused}
@@ -39,7 +41,7 @@ module _ (numbers heap blocks regs : List ℕ) where
   place_below = refused_below (shapes_in numbers) (first_listed numbers) heap (rows_of blocks) regs
 
 -- a field of a block is a word
-pub block_fields : (shapes : List (List Field)) (rows : List Row) (a s c kind level : ℕ) → Block rows a s → c < length (shape_of shapes s) → field_in (shape_of shapes s) c ≡ field_of kind level
+pub block_fields : (shapes : List (List Field)) (rows : List Row) (a s c kind level : ℕ) → Block rows a s → c < length (shape_of shapes s) → field_in (shape_of shapes s) c ≡ field_with kind level
     → Word shapes rows (a + c) kind level
 block_fields = block_word
 

@@ -2,7 +2,8 @@
 ghost use Rattle.std.specs.Prelude.{◌≡◌, ◌<◌, ◌^◌};
 ghost use Rattle.listing.specs.Parts.{register_at, shapes_in};
 ghost use Rattle.start.specs.KindLaws.{Rising, Kinds};
-ghost use Rattle.start.specs.Start.{rows_of, first_of, first_listed, register_fault, registers_fault, held_fault, start_of};
+ghost use Rattle.start.specs.Rows.{rows_of};
+ghost use Rattle.start.specs.Start.{first_of, first_listed, register_fault, registers_fault, held_fault, start_of};
 
 use crate::faults::{Fault, refuse_unless};
 use crate::kinds::kinds_of;
@@ -11,7 +12,7 @@ use crate::pointers::is_of_kind;
 use crate::rows::rows_fault;
 use crate::spans::first_listed;
 use crate::words::fields_fault;
-use listing::limits::SHAPES;
+use listing::limits::{ALL_REGISTERS, SHAPES};
 use listing::{count_at, number_at};
 
 // So many words of the block table make a table of kinds worth its room.
@@ -94,7 +95,7 @@ fn good_fault(numbers: &[u32], heap: &[u32], blocks: &[u32], regs: &[u32]) -> Fa
 }
 
 // Whether a start fits a listing's numbers: the first refusal, rows before fields before registers.
-pub fn check(numbers: &[u32], heap: &[u32], blocks: &[u32], regs: &[u32; 16]) -> Fault
+pub fn check(numbers: &[u32], heap: &[u32], blocks: &[u32], regs: &[u32; ALL_REGISTERS]) -> Fault
     ensures { result ≡ start_of numbers.now heap.now blocks.now regs.now }
 {
     let rows = rows_fault(numbers, heap.len(), blocks);

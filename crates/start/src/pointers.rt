@@ -1,6 +1,7 @@
 // Whether a value is one of a kind: an integer, or the base of a block of its shape.
 ghost use Rattle.std.specs.Prelude.{◌≡◌, ◌<◌, ◌+◌, length, eqb};
-ghost use Rattle.start.specs.Start.{rows_of, is_row, is_block, is_of_kind, row_at};
+ghost use Rattle.start.specs.Rows.{rows_of, row_at};
+ghost use Rattle.start.specs.Start.{is_row, is_block, is_of_kind};
 ghost use Rattle.start.specs.KindLaws.{Kinds};
 
 // Whether the row at a place has this base and this shape.

@@ -1,8 +1,9 @@
 // The rows of the block table, one by one: refusal 31.
 ghost use Rattle.std.specs.Prelude.{◌≡◌, ◌+◌, ltb};
 ghost use Rattle.listing.specs.Parts.{shapes_in};
-ghost use Rattle.start.specs.Start.{rows_of, rows_from, good_row, least_after};
-ghost use Rattle.start.specs.SearchLaws.{row_of};
+ghost use Rattle.start.specs.Rows.{rows_of};
+ghost use Rattle.start.specs.Start.{rows_from, good_row, least_after};
+ghost use Rattle.start.specs.SearchLaws.{row_with};
 
 use crate::faults::Fault;
 use crate::numbers::BAD_ROW;
@@ -19,7 +20,7 @@ fn reaches_past(words: usize, base: u32, size: u32) -> bool
 
 // Whether a row is good behind good ones that leave it a least base.
 fn is_good_row(numbers: &[u32], words: usize, least: usize, base: u32, s: u32) -> bool
-    ensures { result ≡ good_row (shapes_in numbers.now) words least (row_of base s) }
+    ensures { result ≡ good_row (shapes_in numbers.now) words least (row_with base s) }
 {
     if (base as usize) < least {
         return false;
@@ -32,7 +33,7 @@ fn is_good_row(numbers: &[u32], words: usize, least: usize, base: u32, s: u32) -
 
 // The least base that a row leaves to the next.
 fn least_after(numbers: &[u32], base: u32, s: u32) -> usize
-    ensures { result ≡ least_after (shapes_in numbers.now) (row_of base s) }
+    ensures { result ≡ least_after (shapes_in numbers.now) (row_with base s) }
 {
     let size = shape(numbers, s).count as usize;
     if size < 1 {

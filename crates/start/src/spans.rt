@@ -3,11 +3,12 @@ ghost use Rattle.std.specs.Prelude.{◌≡◌, ◌+◌, ◌*◌, ◌≤◌, ◌<
 ghost use Rattle.listing.specs.Limits.{SHAPES, LABELS};
 ghost use Rattle.listing.specs.Parts.{behind, behind_shape, behind_label, shapes_in, labels_in};
 ghost use Rattle.listing.specs.PlaceLaws.{SHAPE_NUMBERS, LABEL_NUMBERS, TOP_LABELS_PLACE, TOP_ITEMS_PLACE};
-ghost use Rattle.start.specs.Start.{shape_of, listed_by, listed_at, first_listed};
+ghost use Rattle.start.specs.Rows.{shape_of};
+ghost use Rattle.start.specs.Start.{listed_by, listed_at, first_listed};
 ghost use Rattle.start.specs.PartLaws.{fields_in, registers_in};
 
 use listing::limits::{FIELDS, ITEMS, LABELS, REGISTERS, SHAPES, STACK};
-use listing::{Item, behind_label, behind_shape, count_at, item_at, items_place, labels_place};
+use listing::{Item, count_at, item_at, items_place, label_size, labels_place, shape_size};
 
 // So many parts from a place on.
 #[derive(Drop)]
@@ -25,7 +26,7 @@ fn shape_place(numbers: &[u32], s: u32) -> u32
     let mut at = 2;
     let mut left = s;
     while 0 < left {
-        at = behind_shape(numbers, at);
+        at += shape_size(numbers, at);
         left -= 1;
     }
     at
@@ -41,7 +42,7 @@ fn label_place(numbers: &[u32], place: u32, l: u32) -> u32
     let mut at = place + 1;
     let mut left = l;
     while 0 < left {
-        at = behind_label(numbers, at);
+        at += label_size(numbers, at);
         left -= 1;
     }
     at

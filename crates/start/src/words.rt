@@ -2,8 +2,9 @@
 ghost use Rattle.std.specs.Prelude.{◌≡◌};
 ghost use Rattle.listing.specs.Parts.{shapes_in, field_at};
 ghost use Rattle.start.specs.KindLaws.{Kinds};
-ghost use Rattle.start.specs.Start.{rows_of, word_of, word_fault, block_fault, fields_fault};
-ghost use Rattle.start.specs.SearchLaws.{row_of};
+ghost use Rattle.start.specs.Rows.{rows_of};
+ghost use Rattle.start.specs.Start.{block_word, word_fault, block_fault, fields_fault};
+ghost use Rattle.start.specs.SearchLaws.{row_with};
 
 use crate::faults::{Fault, refuse_unless};
 use crate::numbers::BAD_FIELD;
@@ -22,7 +23,7 @@ fn word_fault(
     at: u32,
 ) -> Fault
     requires { Kinds blocks.now kinds.now }
-    ensures { result ≡ word_fault (rows_of blocks.now) heap.now (word_of address (field_at numbers.now at)) }
+    ensures { result ≡ word_fault (rows_of blocks.now) heap.now (block_word address (field_at numbers.now at)) }
 {
     let kind = count_at(SHAPES, numbers, at);
     let value = number_at(heap, address);
@@ -40,7 +41,7 @@ fn block_fault(
     s: u32,
 ) -> Fault
     requires { Kinds blocks.now kinds.now }
-    ensures { result ≡ block_fault (shapes_in numbers.now) (rows_of blocks.now) heap.now (row_of base s) }
+    ensures { result ≡ block_fault (shapes_in numbers.now) (rows_of blocks.now) heap.now (row_with base s) }
 {
     let fields = shape(numbers, s);
     let mut at = fields.at;

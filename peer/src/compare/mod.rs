@@ -2,6 +2,7 @@
 //! every case the same answer and the same bytes, and a tally of what the cases
 //! reached. The tests make as many cases as fill the tally; `bin/long` makes more.
 
+mod buffers;
 pub mod desk;
 pub mod listing;
 pub mod observer;

@@ -6,7 +6,7 @@ use peer::bytes::bytes_of;
 use peer::cases::packet::pieces::{k16, k2, K1};
 use peer::cases::run;
 use peer::checker::LEVEL_RULE;
-use peer::erase_call::WORDS_DO_NOT_FIT;
+use peer::hand_over::WORDS_DO_NOT_FIT;
 use peer::packet::LEFT_OVER;
 use peer::run_call::BAD_BUFFER;
 

@@ -5,8 +5,9 @@ use crate::answer::unpack;
 use crate::cases::listing::programs::FEWEST_ITEMS;
 use crate::cases::listing::Case;
 use crate::checker::Walk;
+use crate::compare::buffers::Buffers;
 use crate::compare::{agreed_case, assert_often, Comparison};
-use crate::erase_call::WORDS_DO_NOT_FIT;
+use crate::hand_over::WORDS_DO_NOT_FIT;
 use crate::listing::context::Context;
 use crate::listing::item::Item;
 use crate::listing::Listing;
@@ -26,7 +27,7 @@ pub struct Tally {
     accepted: BTreeMap<&'static str, u64>,
     items: [u64; 18],
     refused: Refused,
-    buffers: BTreeMap<&'static str, u64>,
+    buffers: Buffers,
 }
 
 impl Tally {
@@ -41,7 +42,7 @@ impl Tally {
         let listing = Listing::of(&numbers);
         if number == 0 {
             self.add_accepted(&listing);
-            self.add_buffer(case.code.len(), erase);
+            self.buffers.add(case.code.len(), erase);
         } else {
             self.refused.add(&listing, number, place as usize);
         }
@@ -82,20 +83,6 @@ impl Tally {
         }
         (fills, loops)
     }
-
-    fn add_buffer(&mut self, length: usize, erase: u64) {
-        let ragged = !length.is_multiple_of(4);
-        let name = match unpack(erase) {
-            (WORDS_DO_NOT_FIT, _, _) if length == 0 => "none",
-            (WORDS_DO_NOT_FIT, _, _) if ragged => "ragged and short",
-            (WORDS_DO_NOT_FIT, words, _) if length + 4 == 4 * words as usize => "short by a word",
-            (WORDS_DO_NOT_FIT, _, _) => "short",
-            (BAD_BUFFER, _, _) => "ragged and long enough",
-            (_, _, count) if length == 4 * count as usize => "exact",
-            _ => "longer",
-        };
-        *self.buffers.entry(name).or_default() += 1;
-    }
 }
 
 impl Comparison for Tally {
@@ -118,8 +105,7 @@ impl Comparison for Tally {
         for (name, &times) in &self.accepted {
             assert!(times >= 300, "{name} only {times} times");
         }
-        assert_eq!(self.buffers.len(), 7, "buffers: {:?}", self.buffers);
-        assert!(self.buffers.values().all(|&times| times >= 500), "a buffer is too seldom");
+        self.buffers.assert_full(500);
         self.refused.assert_full();
     }
 }
@@ -130,7 +116,7 @@ impl fmt::Display for Tally {
         writeln!(f, "the same of erase: {:?}", self.erases)?;
         writeln!(f, "accepted items by number from 0: {:?}", self.items)?;
         writeln!(f, "accepted listings with: {:?}", self.accepted)?;
-        writeln!(f, "buffers for accepted listings: {:?}", self.buffers)?;
+        writeln!(f, "buffers for accepted listings: {}", self.buffers)?;
         write!(f, "{}", self.refused)
     }
 }

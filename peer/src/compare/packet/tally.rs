@@ -2,10 +2,12 @@
 
 use crate::answer::unpack;
 use crate::cases::packet::Case;
+use crate::compare::buffers::Buffers;
 use crate::compare::{agreed_case, assert_often, Comparison};
+use crate::hand_over::WORDS_DO_NOT_FIT;
 use crate::packet::grammar::{listing, Due, Source};
 use crate::packet::{Reader, Refusal, BAD_NUMBER, BYTES_END, OUT_OF_RANGE, PACKET_BYTES};
-use crate::read_call::NUMBERS_DO_NOT_FIT;
+use crate::run_call::BAD_BUFFER;
 use std::collections::BTreeMap;
 use std::fmt;
 use std::ops::RangeInclusive;
@@ -24,28 +26,19 @@ pub struct Tally {
     out_of_range: Faults,
     long_listings: u64,
     full_packets: u64,
-    longer_buffers: u64,
-    ragged_buffers: u64,
-    short_by_a_word: u64,
+    buffers: Buffers,
 }
 
 type Faults = BTreeMap<Due, u64>;
 
 impl Tally {
     fn add(&mut self, case: &Case, answer: u64) {
-        let (number, place, count) = unpack(answer);
+        let (number, _, count) = unpack(answer);
         *self.answers.entry(number).or_default() += 1;
         self.full_packets += u64::from(case.packet.len() == PACKET_BYTES);
-        let buffer = case.numbers.len();
+        self.long_listings += u64::from(count > LONG_LISTING);
         match number {
-            0 => {
-                self.long_listings += u64::from(count > LONG_LISTING);
-                self.longer_buffers += u64::from(buffer > 4 * count as usize);
-                self.ragged_buffers += u64::from(!buffer.is_multiple_of(4));
-            }
-            NUMBERS_DO_NOT_FIT => {
-                self.short_by_a_word += u64::from(buffer + 4 == 4 * place as usize);
-            }
+            0 | BAD_BUFFER | WORDS_DO_NOT_FIT => self.buffers.add(case.numbers.len(), answer),
             BYTES_END => add_due(&mut self.ends, &case.packet),
             BAD_NUMBER => add_due(&mut self.bad_numbers, &case.packet),
             OUT_OF_RANGE => add_due(&mut self.out_of_range, &case.packet),
@@ -65,16 +58,14 @@ impl Comparison for Tally {
     }
 
     fn assert_full(&self) {
-        assert_often(&self.answers, [0, 1, 2, 3, 4, 5, 6, 35], 1_000);
+        assert_often(&self.answers, [0, 1, 2, 3, 4, 5, 6, BAD_BUFFER, WORDS_DO_NOT_FIT], 1_000);
         assert_sorts(&self.ends, SORTS, 30);
         assert_sorts(&self.bad_numbers, SORTS, 60);
         // An edition out of range has a refusal of its own.
         assert_sorts(&self.out_of_range, SORTS - 1, 100);
         assert!(self.long_listings >= 2_000, "too few long listings");
         assert!(self.full_packets >= 500, "too few full packets");
-        assert!(self.longer_buffers >= 5_000, "too few longer buffers");
-        assert!(self.ragged_buffers >= 3_000, "too few ragged buffers");
-        assert!(self.short_by_a_word >= 2_000, "too few buffers short by a word");
+        self.buffers.assert_full(500);
     }
 }
 
@@ -86,9 +77,7 @@ impl fmt::Display for Tally {
         writeln!(f, "out of range (4): {}", summary(&self.out_of_range))?;
         writeln!(f, "listings of over {LONG_LISTING} numbers: {}", self.long_listings)?;
         writeln!(f, "packets of {PACKET_BYTES} bytes: {}", self.full_packets)?;
-        writeln!(f, "longer buffers: {}", self.longer_buffers)?;
-        writeln!(f, "ragged buffers: {}", self.ragged_buffers)?;
-        write!(f, "buffers short by a word: {}", self.short_by_a_word)
+        write!(f, "buffers for packets that are taken: {}", self.buffers)
     }
 }
 

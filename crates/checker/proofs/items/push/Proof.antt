@@ -7,4 +7,14 @@ use Rattle.checker.proofs.items.push.Tie as tie
 pub push_spec : {M : Type 1} → statement M
 push_spec =
     tie.close
-    (tie.spec (λ c. search (stacks, rules)) (λ c. search rules) (λ c. search rules) (λ c. search (stacks, rules)) (λ c. search (stacks, rules)) (λ c. search rules) (λ c. search (stacks, rules)))
+    (tie.spec
+    (λ c. search (stacks, rules))
+    (λ c. search rules)
+    (λ c. search rules)
+    (λ c. search (stacks, rules))
+    (λ c. search (stacks, rules))
+    (λ c. search rules)
+    (λ c. search rules)
+    (λ c. search rules)
+    (λ c. search rules)
+    (λ c. search (stacks, rules)))

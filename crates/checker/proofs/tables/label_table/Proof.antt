@@ -44,5 +44,6 @@ label-table-spec =
     (λ c κs. search (finds, fields, tablings, rules))
     (λ c. search (finds, fields, tablings, rules))
     (λ c. search (finds, fields, tablings, rules))
+    (λ c. search (finds, fields, tablings, rules))
     loop-again
     (λ c. search (finds, fields, tablings, rules)))

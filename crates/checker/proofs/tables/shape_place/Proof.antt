@@ -12,6 +12,7 @@ shape-place-spec =
     (λ c. search (finds, rules))
     (λ c. search rules)
     (λ c. search rules)
+    (λ c. search rules)
     (λ c. search (finds, rules))
     (λ c. search rules)
     (λ c. search (finds, rules)))

@@ -43,5 +43,6 @@ shape-table-spec =
     (λ c κs. search (finds, fields, tablings, rules))
     (λ c. search (finds, fields, tablings, rules))
     (λ c. search (finds, fields, tablings, rules))
+    (λ c. search (finds, fields, tablings, rules))
     loop-again
     (λ c. search (finds, fields, tablings, rules)))

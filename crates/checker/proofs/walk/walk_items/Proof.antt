@@ -60,7 +60,8 @@ walk-items-spec =
     (λ c κs. search rules)
     (λ c κs. search rules)
     (λ c κs. search rules)
-    (λ c κs. search (turns, rules))
+    (λ c κs. search rules)
+    (λ c. search rules)
     (λ c. search rules)
     (λ c. search rules)
     loop-again
@@ -70,13 +71,15 @@ walk-items-spec =
     (λ c. search rules)
     (λ c. search rules)
     (λ c. search rules)
-    (λ c κs. search (turns, rules))
+    (λ c κs. search rules)
+    (λ c. search rules)
     (λ c. search rules)
     (λ c. search rules)
     loop-again-2
     held-after-requires
     (λ c κs. search rules)
-    (λ c κs. search (turns, rules))
+    (λ c κs. search rules)
+    (λ c. search rules)
     (λ c. search rules)
     (λ c. search rules)
     loop-again-3

@@ -1,12 +1,13 @@
 -- `put_all` writes the words of the kept items: the whole code is what the items that are left still write into it.
 use native.Mathlib.Omega.{arith}
-use Rattle.eraser.specs.PassLaws.{put_of, Passing, passes, words_turn, needed_turn, turn_fits}
+use Rattle.listing.specs.PlaceLaws.{further}
+use Rattle.eraser.specs.PassLaws.{put_word, PassGoesOn, passes, words_turn, needed_turn, turn_fits}
 use borrow.Author.Rules.{rules}
 use Rattle.eraser.proofs.words.put_all.Statement.{statement}
 use Rattle.eraser.proofs.words.put_all.Tie as tie
 
 abbrev invariant-loop : tie.invariant-loop
-invariant-loop numbers addresses code₀ place at₀ left₀ count₀ code at left count = Passing (put_of addresses) numbers code₀ at left count code
+invariant-loop numbers addresses code₀ place at₀ left₀ count₀ code at left count = PassGoesOn (put_word addresses) numbers code₀ at left count code
 
 abbrev decreases-loop : tie.decreases-loop
 decreases-loop numbers addresses code₀ place at₀ left₀ count₀ code at left count = left
@@ -27,6 +28,7 @@ put-all-spec =
     (λ c κs. search rules)
     (λ c. search rules)
     (λ c. search rules)
-    (λ c. (search words_turn, search needed_turn, cc, omega arith, omega arith))
+    (λ c. search rules)
+    (λ c. (search (words_turn, further), search (needed_turn, further), cc, omega arith, omega arith))
     (λ c. search rules)
     (λ c. search (passes, rules)))

@@ -22,5 +22,6 @@ labels-place-spec =
     (λ c κs. search rules)
     (λ c. search rules)
     (λ c. search rules)
+    (λ c. search rules)
     (λ c. search (places, rules))
     (λ c. search (places, rules)))

@@ -4,6 +4,7 @@ use Prim.Native.Nat.{◌+◌, ◌*◌, ◌≤◌}
 use mathlib.Core.Path.{◌≡◌}
 use native.Mathlib.Omega.{arith}
 use lib.ListN.{length}
+use Rattle.listing.specs.Limits.{ALL_REGISTERS}
 use Rattle.listing.specs.Parts.{parts_from, register_at, label_at}
 use Rattle.rules.specs.Context.{no_registers, with_listed}
 use borrow.Author.Rules.{rules}
@@ -14,7 +15,7 @@ abbrev invariant-loop : tie.invariant-loop
 invariant-loop numbers place count left₀ at₀ registers₀ left at registers =
     (with_listed no_registers (label_at numbers place).registers ≡ with_listed registers (parts_from (register_at numbers) (λ p. p + 3) at left))
     × (at + left * 3 ≤ at₀ + left₀ * 3)
-    × (length registers ≡ 16)
+    × (length registers ≡ ALL_REGISTERS)
 
 abbrev decreases-loop : tie.decreases-loop
 decreases-loop numbers place count left₀ at₀ registers₀ left at registers = left

@@ -3,7 +3,8 @@ use Prim.Native.Nat.{◌+◌, ◌*◌, ◌≤◌}
 use native.Mathlib.Omega.{arith}
 use mathlib.Core.Path.{◌≡◌}
 use Rattle.listing.specs.PlaceLaws.{TOP_ITEMS_PLACE}
-use Rattle.start.specs.Start.{rows_of, first_of, first_listed, register_fault}
+use Rattle.start.specs.Rows.{rows_of}
+use Rattle.start.specs.Start.{first_of, first_listed, register_fault}
 use Rattle.start.specs.PartLaws.{registers_in}
 use Rattle.start.specs.SearchLaws.{mores, faults}
 use borrow.Author.Rules.{rules}

@@ -3,7 +3,8 @@ use Prim.Native.Nat.{◌+◌, ◌*◌, ◌≤◌}
 use native.Mathlib.Omega.{arith}
 use mathlib.Core.Path.{◌≡◌}
 use lib.ListN.{length}
-use Rattle.start.specs.Start.{rows_of, any_of, is_row, is_block}
+use Rattle.start.specs.Rows.{rows_of}
+use Rattle.start.specs.Start.{any_of, is_row, is_block}
 use Rattle.start.specs.SearchLaws.{rows_left, mores, searches}
 use borrow.Author.Rules.{rules}
 use Rattle.start.proofs.pointers.is_block.Statement.{statement}

@@ -4,7 +4,8 @@ use native.Mathlib.Omega.{arith}
 use mathlib.Core.Path.{◌≡◌}
 use lib.ListN.{length}
 use Rattle.listing.specs.Parts.{shapes_in}
-use Rattle.start.specs.Start.{rows_of, rows_from}
+use Rattle.start.specs.Rows.{rows_of}
+use Rattle.start.specs.Start.{rows_from}
 use Rattle.start.specs.SearchLaws.{rows_left, mores, bads}
 use borrow.Author.Rules.{rules}
 use Rattle.start.proofs.rows.rows_fault.Statement.{statement}

@@ -24,5 +24,6 @@ label-place-spec =
     (λ c κs. search rules)
     (λ c. search rules)
     (λ c. search rules)
+    (λ c. search rules)
     (λ c. search (places, rules))
     (λ c. search (places, rules)))

@@ -23,5 +23,6 @@ shape-place-spec =
     (λ c κs. search rules)
     (λ c. search rules)
     (λ c. search rules)
+    (λ c. search rules)
     (λ c. search (places, rules))
     (λ c. search (places, rules)))

@@ -4,7 +4,8 @@ use native.Mathlib.Omega.{arith}
 use mathlib.Core.Path.{◌≡◌}
 use lib.ListN.{length}
 use Rattle.listing.specs.Parts.{shapes_in}
-use Rattle.start.specs.Start.{rows_of, first_of, block_fault, fields_fault}
+use Rattle.start.specs.Rows.{rows_of}
+use Rattle.start.specs.Start.{first_of, block_fault, fields_fault}
 use Rattle.start.specs.SearchLaws.{rows_left, mores, faults}
 use borrow.Author.Rules.{rules}
 use Rattle.start.proofs.words.fields_fault.Statement.{statement}

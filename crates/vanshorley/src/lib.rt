@@ -1,0 +1,9 @@
+// The C border: calls on numbers and byte buffers, over the proved crates below. Read specs/RunCall.antt
+// first.
+mod answers;
+mod buffers;
+mod desk_bytes;
+mod packet_calls;
+mod rooms;
+mod run_call;
+mod words;
