@@ -29,7 +29,7 @@ extern "C" {
 #define VANS_BLOCK_WORDS 1024     /* a block table: else 30 */
 #define VANS_REGISTER_BYTES 64    /* sixteen registers, exactly: else 30 */
 #define VANS_BUDGET 1000000       /* a run: else 34 */
-#define VANS_STACK 524288         /* bytes of stack; the most that was measured is 272 kB */
+#define VANS_STACK 524288         /* bytes of stack; the most that was measured is 356 kB */
 
 /* An answer is number * 2^56 + place * 2^32 + count. The number is a status or a refusal. */
 #define VANS_HALTED 0             /* also: accepted, read, erased */
