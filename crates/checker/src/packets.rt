@@ -7,7 +7,7 @@ use listing::Taken;
 
 // What a packet is: accepted, a listing of so many numbers; refused, with the number and place; or
 // there is less room for its numbers than it has bytes.
-#[derive(Drop)]
+#[derive(Clone, Copy)]
 pub enum Checked {
     Accepted(usize),
     Refused(u8, usize),

@@ -19,7 +19,7 @@ use rules::numbers::{NEVER_PLACED, OPEN_END};
 use rules::{Slot, enter, nothing, unless};
 
 // A refusal's number and place; both are 0 where the listing is accepted.
-#[derive(Drop)]
+#[derive(Clone, Copy)]
 pub struct Verdict {
     pub number: u8,
     pub place: u32,

@@ -118,7 +118,7 @@ fn in_longest(
 }
 
 // Tries the rooms from a size on. It calls itself for the next size, as over_room does and for the same
-// reason: a short packet does not make the longest room's stack frame.
+// reason: with the older compiler a short packet did not make the longest room's stack frame.
 pub fn in_room(
     size: u32,
     task: u32,

@@ -16,7 +16,7 @@ use std::io::{Read, Write};
 const MOST: usize = BYTES + 1;
 
 // How many bytes were read, and whether a read failed behind them or their line was not printed.
-#[derive(Drop)]
+#[derive(Clone, Copy)]
 pub struct Input {
     pub count: usize,
     pub failed: bool,

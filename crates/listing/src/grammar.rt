@@ -50,7 +50,7 @@ pub enum Wanted {
 }
 
 // What is due: a number, nothing more, or nothing because the number before was refused.
-#[derive(Drop)]
+#[derive(Clone, Copy)]
 pub enum Due {
     Next(Wanted),
     End,

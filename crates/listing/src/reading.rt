@@ -10,7 +10,7 @@ use number::Found;
 
 // What a packet is: a listing of so many numbers, or a fault with its refusal's number and place; or
 // there is less room for its numbers than it has bytes.
-#[derive(Drop)]
+#[derive(Clone, Copy)]
 pub enum Taken {
     Listing(usize),
     Fault(u8, usize),
@@ -18,7 +18,7 @@ pub enum Taken {
 }
 
 // One number that was wanted, with the place behind it and what is due then; or the fault there.
-#[derive(Drop)]
+#[derive(Clone, Copy)]
 pub enum Got {
     Took(u32, usize, Due),
     Bad(u8, usize),

@@ -11,7 +11,7 @@ use crate::table::{State, act};
 
 // What a run leaves beside the heap: the state, and the count of words acted on. Where the bare
 // machine refuses, the status is the refusal's number and the state is the start's.
-#[derive(Drop)]
+#[derive(Clone, Copy)]
 pub struct Ran {
     pub state: State,
     pub count: u32,

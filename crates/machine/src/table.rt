@@ -7,7 +7,7 @@ use crate::arithmetic::{compute, extended};
 use crate::numbers::{BAD_ADDRESS, BAD_WORD, HALTED, NO_WORD, RUNNING};
 
 // The sixteen registers, the pc and a status. A status other than RUNNING is that of a stopped state.
-#[derive(Drop)]
+#[derive(Clone, Copy)]
 pub struct State {
     pub regs: [u32; 16],
     pub pc: usize,
@@ -15,7 +15,7 @@ pub struct State {
 }
 
 // Where a word that was acted on leaves the pc and the status.
-#[derive(Drop)]
+#[derive(Clone, Copy)]
 pub struct Next {
     pub pc: usize,
     pub status: u8,

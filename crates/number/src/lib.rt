@@ -13,7 +13,7 @@ const GROUPS: u32 = 5;
 const CONTINUES: u8 = 128;
 
 // What stands at a place of a packet.
-#[derive(Drop)]
+#[derive(Clone, Copy)]
 pub enum Found {
     // A number, and the place behind it.
     Number(u32, usize),

@@ -13,7 +13,7 @@ use start::Fault;
 
 // What the desk answers: a refusal's number or a run's status, the refusal's place, the count of words
 // acted on, and the registers.
-#[derive(Drop)]
+#[derive(Clone, Copy)]
 pub struct Service {
     pub number: u8,
     pub place: usize,
