@@ -1,4 +1,3 @@
--- `read_groups` reads a number: the whole reading is what is left of it from each group on.
 use Rattle.number.specs.NumberLaws.{groups, goes_on, scale_next, scale_fits, group_below}
 use borrow.Author.Rules.{rules}
 use Rattle.number.proofs.read_groups.Goals as goal

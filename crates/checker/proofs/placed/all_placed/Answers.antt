@@ -1,4 +1,3 @@
--- `all_placed`: the whole answer is that for the labels that are left.
 use Rattle.checker.specs.WalkLaws.{placings}
 use borrow.Author.Rules.{rules}
 use Rattle.checker.proofs.placed.all_placed.Goals as goal

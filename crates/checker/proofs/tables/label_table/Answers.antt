@@ -1,4 +1,3 @@
--- `label_table` enters the place of each label: the whole table is what is left to enter from each label on.
 use Rattle.checker.specs.Tables.{finds, fields, tablings}
 use native.Mathlib.Omega.{arith}
 use borrow.Author.Rules.{rules}

@@ -1,4 +1,3 @@
--- `shape_table` enters the place of each shape: the whole table is what is left to enter from each shape on.
 use Rattle.checker.specs.Tables.{finds, fields, tablings}
 use native.Mathlib.Omega.{arith}
 use borrow.Author.Rules.{rules}

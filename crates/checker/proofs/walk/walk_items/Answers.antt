@@ -1,4 +1,3 @@
--- `walk_items`: the whole verdict is that of the walk from each item on.
 use Rattle.checker.specs.WalkLaws.{turns, due_holds, write_turn}
 use native.Mathlib.Omega.{arith}
 use borrow.Author.Rules.{rules}

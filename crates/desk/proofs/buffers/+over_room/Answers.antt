@@ -1,4 +1,3 @@
--- `over_room` takes the smallest room from a size on that is large enough. Each call of itself is for a larger size, of which there are two.
 use Rattle.std.proofs.Common.{arith}
 use Rattle.machine.specs.Numbers.{CODE_WORDS}
 use Rattle.desk.proofs.buffers.+over_room.Goals as goal

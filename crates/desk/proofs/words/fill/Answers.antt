@@ -1,4 +1,3 @@
--- `fill` copies bytes into words: the words before i are there, and the bytes left make the rest.
 use native.Mathlib.Omega.{arith}
 use lib.ListN.{length-set}
 use Rattle.desk.specs.ByteLaws.{fill_more, fill_all}

@@ -1,4 +1,3 @@
--- `spill` copies words into bytes: the bytes of the words before i are there, and the words left make the rest.
 use native.Mathlib.Omega.{arith}
 use lib.ListN.{length-set}
 use Rattle.desk.specs.ByteLaws.{spill_more, spill_all}

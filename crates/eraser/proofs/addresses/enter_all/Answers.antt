@@ -1,4 +1,3 @@
--- `enter_all` enters the labels' addresses: the whole table is what the items that are left make of it.
 use native.Mathlib.Omega.{arith}
 use Rattle.eraser.specs.PassLaws.{passes, words_turn, needed_turn}
 use borrow.Author.Rules.{rules}

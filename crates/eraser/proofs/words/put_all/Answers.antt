@@ -1,4 +1,3 @@
--- `put_all` writes the words of the kept items: the whole code is what the items that are left still write into it.
 use native.Mathlib.Omega.{arith}
 use Rattle.eraser.specs.PassLaws.{passes, words_turn, needed_turn, turn_fits}
 use borrow.Author.Rules.{rules}

@@ -1,4 +1,3 @@
--- `put_decimal` puts the digits of a tenth of the number, and its last. Each call of itself is for a smaller number.
 use Rattle.std.proofs.Common.{rules}
 use Rattle.lines.specs.PutLaws.{puts}
 use Rattle.lines.proofs.texts.+put_decimal.Goals as goal

@@ -1,4 +1,3 @@
--- `put_text` goes from byte to byte: the whole is what is still to be put.
 use Rattle.lines.specs.PutLaws.{puts}
 use borrow.Author.Rules.{rules}
 use Rattle.lines.proofs.texts.put_text.Goals as goal

@@ -1,4 +1,3 @@
--- `items_place` goes from label to label: the place is the one behind the labels that are left.
 use Rattle.listing.specs.PlaceLaws.{places}
 use borrow.Author.Rules.{rules}
 use Rattle.listing.proofs.places.items_place.Goals as goal

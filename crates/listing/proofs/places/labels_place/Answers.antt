@@ -1,4 +1,3 @@
--- `labels_place` goes from shape to shape: the place is the one behind the shapes that are left.
 use Rattle.listing.specs.PlaceLaws.{places}
 use borrow.Author.Rules.{rules}
 use Rattle.listing.proofs.places.labels_place.Goals as goal

@@ -1,4 +1,3 @@
--- `read_numbers` reads a packet: the whole reading is what is left of it from each number on.
 use Rattle.listing.specs.PacketLaws.{packets, got_behind}
 use Prim.Native.Nat.{◌<◌, ◌≤◌}
 use lib.ListN.{length, length-set}

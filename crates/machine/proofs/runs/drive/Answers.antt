@@ -1,4 +1,3 @@
--- `drive` runs the machine: the whole run is what is left of it from each turn on.
 use Rattle.machine.specs.RunLaws.{turns}
 use Rattle.machine.specs.R0Laws.{still_zero}
 use borrow.Author.Rules.{rules}

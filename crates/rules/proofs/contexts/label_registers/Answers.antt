@@ -1,4 +1,3 @@
--- `label_registers` puts a label's registers in: the whole list is what is left of it from each register on.
 use Rattle.rules.specs.HeldLaws.{lists}
 use native.Mathlib.Omega.{arith}
 use borrow.Author.Rules.{rules}

@@ -1,4 +1,3 @@
--- `label_stack` pushes from the last label up: what is pushed is the label's stack from there on.
 use Rattle.rules.specs.HeldLaws.{pushings}
 use native.Mathlib.Omega.{arith}
 use borrow.Author.Rules.{rules}

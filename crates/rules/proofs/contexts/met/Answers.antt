@@ -1,4 +1,3 @@
--- `met` goes through a label's registers: the whole answer is that for those that are left.
 use Rattle.rules.specs.HeldLaws.{lists}
 use native.Mathlib.Omega.{arith}
 use borrow.Author.Rules.{rules}

@@ -1,4 +1,3 @@
--- `same_from` goes through a label's stack: the whole answer is that for the labels that are left.
 use Rattle.rules.specs.HeldLaws.{sames}
 use native.Mathlib.Omega.{arith}
 use borrow.Author.Rules.{rules}

@@ -1,4 +1,3 @@
--- `listed_fault` goes from register to register: the first fault is that of the registers that are left.
 use native.Mathlib.Omega.{arith}
 use Rattle.start.specs.SearchLaws.{mores, faults}
 use borrow.Author.Rules.{rules}

@@ -1,4 +1,3 @@
--- `kinds_of` enters the rows from the last to the first.
 use Rattle.start.specs.KindLaws.{ADDRESSES, entries}
 use borrow.Author.Rules.{rules}
 use Rattle.start.proofs.kinds.kinds_of.Goals as goal

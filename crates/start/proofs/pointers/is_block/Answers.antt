@@ -1,4 +1,3 @@
--- `is_block` goes from row to row: one is found exactly where one of those that are left is it.
 use native.Mathlib.Omega.{arith}
 use Rattle.start.specs.Start.{rows_of}
 use Rattle.start.specs.SearchLaws.{mores, searches}

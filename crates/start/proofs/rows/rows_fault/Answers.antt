@@ -1,4 +1,3 @@
--- `rows_fault` goes from row to row: the first bad row is that of the rows that are left.
 use native.Mathlib.Omega.{arith}
 use Rattle.start.specs.Start.{rows_of}
 use Rattle.start.specs.SearchLaws.{mores, bads}

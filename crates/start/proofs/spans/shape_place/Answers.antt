@@ -1,4 +1,3 @@
--- `shape_place` goes from shape to shape: the place is the one behind the shapes that are left.
 use Rattle.listing.specs.PlaceLaws.{places}
 use borrow.Author.Rules.{rules}
 use Rattle.start.proofs.spans.shape_place.Goals as goal

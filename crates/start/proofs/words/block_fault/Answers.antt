@@ -1,4 +1,3 @@
--- `block_fault` goes from field to field: the first fault is that of the words that are left.
 use native.Mathlib.Omega.{arith}
 use Rattle.start.specs.Start.{block_fault}
 use Rattle.start.specs.SearchLaws.{mores, faults}

@@ -1,4 +1,3 @@
--- `fields_fault` goes from row to row: the first fault is that of the blocks that are left.
 use native.Mathlib.Omega.{arith}
 use Rattle.start.specs.Start.{rows_of, fields_fault}
 use Rattle.start.specs.SearchLaws.{mores, faults}
