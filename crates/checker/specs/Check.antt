@@ -1,14 +1,13 @@
 -- The checker on packets, for all bytes: the reader's refusal, or the walk's verdict on the listing whose bytes they are.
 use Rattle.std.specs.Prelude.{ℕ, List, eqb}
 use Rattle.choice.specs.Pick.{pick}
+use Rattle.refusals.specs.Refusals.{Verdict}
 use Rattle.levels.specs.Sets.{below_of, join_of}
-use Rattle.listing.specs.declared.reading.Taken.{Taken}
-use Rattle.listing.specs.declared.reading.Taken.TheVariants.{Listing, Fault, NoRoom}
+use Rattle.listing.specs.Taken.{Taken, Listing, Fault, NoRoom}
 use Rattle.listing.specs.Packet.{packet_of, numbers_in, taken_of}
 use Rattle.listing.specs.Parts.{listing_in}
-use Rattle.checker.specs.declared.walk.Verdict.{Verdict}
-use Rattle.checker.specs.declared.packets.Checked.{Checked}
-use Rattle.checker.specs.declared.packets.Checked.TheVariants as checked
+use Rattle.checker.specs.Checked.{Checked}
+use Rattle.checker.specs.Checked as checked
 use Rattle.checker.specs.Walk.{walk_of}
 
 -- levels are sets of compartments

@@ -1,13 +1,18 @@
--- Laws of the checker on packets: one for each way through its code, in `checks`; and for callers, what it answers and leaves in a room that is large enough.
-use Rattle.std.specs.Prelude.{ℕ, ◌+◌, ◌≤◌, refl, Bool, false, take, replicate}
+-- Laws of the checker on packets: one for each way through its code; and for callers, what it answers and leaves in a room that is large enough.
+use Rattle.std.specs.Prelude.{ℕ, ◌+◌, ◌≤◌, refl, Bool, false, Err, take, replicate}
 use Rattle.std.proofs.Common.{arith, sym, ◌∙◌, length-take-le}
 use Rattle.std.proofs.Math.Path.{◌≡◌, ap}
 use mathlib.Core.List.{List, [], ◌∷◌}
 use Rattle.std.proofs.Math.ListN.{length}
-use Rattle.choice.specs.Pick.{if_less, if_equal}
+use Rattle.choice.specs.Pick.{is_equal, not_equal, if_less, if_equal}
+use Rattle.refusals.specs.declared.Fault.{Fault}
+use Rattle.refusals.specs.Refusals.{number_of, Verdict, verdict_of}
+use Rattle.refusals.specs.RefusalLaws.{some_number}
 use Rattle.levels.specs.Sets.{below_of, join_of}
-use Rattle.listing.specs.declared.reading.Taken.{Taken}
-use Rattle.listing.specs.declared.reading.Taken.TheVariants as taken
+use Rattle.listing.specs.declared.reading.ReadError.{ReadError}
+use Rattle.listing.specs.declared.reading.ReadError.TheVariants as error
+use Rattle.listing.specs.Taken.{Taken, taken_in}
+use Rattle.listing.specs.Taken as taken
 use Rattle.listing.specs.declared.items.Item.{Item}
 use Rattle.listing.specs.Limits.{BYTES, LABELS, ITEMS}
 use Rattle.listing.specs.Listing.{Field, LabelContext, Listing}
@@ -20,10 +25,9 @@ use Rattle.rules.specs.Context.{Context, context_of, no_registers}
 use Rattle.rules.specs.Rules.{after_of}
 use Rattle.checker.specs.declared.blocks.Block.{Block}
 use Rattle.checker.specs.declared.blocks.Block.TheVariants.{Start}
-use Rattle.checker.specs.declared.walk.Verdict.{Verdict}
-use Rattle.checker.specs.declared.packets.Checked.{Checked}
-use Rattle.checker.specs.declared.packets.Checked.TheVariants as checked
-use Rattle.checker.specs.Walk.{verdict_of, accepted, block_after, placed_after, or_else, walk_from, walk_of}
+use Rattle.checker.specs.Checked.{Checked, checked_in}
+use Rattle.checker.specs.Checked as checked
+use Rattle.checker.specs.Walk.{accepted, block_after, placed_after, or_else, walk_from, walk_of}
 use Rattle.checker.specs.Check.{verdict_in, judged_of, checked_by, Checking, checking_of, check_in, check_of}
 
 -- a packet that is taken is within its limit, and has room
@@ -47,15 +51,6 @@ module _ (packet room room' : List ℕ) (t : Taken) (e : reading_of t room' ≡ 
   taken_count : (n : ℕ) → t ≡ taken.Listing n → n ≤ length packet
   taken_count n p = read_count packet room room' t e (taken_bounds n p).0 (taken_bounds n p).1 n p
 
-  pub front_fits : (n : ℕ) → t ≡ taken.Listing n → length room' ≡ length room → n ≤ length room'
-  front_fits n p s = omega (arith, taken_count n p, taken_bounds n p)
-
-  pub front_within : (n : ℕ) → t ≡ taken.Listing n → length room' ≡ length room → length (take n room') ≤ BYTES
-  front_within n p s = omega (arith, taken_count n p, taken_bounds n p, length-take-le n room' (front_fits n p s))
-
-  pub front_is : (n : ℕ) → t ≡ taken.Listing n → length room' ≡ length room → n ≡ length (take n room')
-  front_is n p s = sym (length-take-le n room' (front_fits n p s))
-
   -- the way of each arm
   as_taken : (r : Checked) (x : Taken) → t ≡ x → r ≡ checked_by x (verdict_in packet) → checking_of r room' ≡ check_in packet room
   unfolding check_in
@@ -64,23 +59,48 @@ module _ (packet room room' : List ℕ) (t : Taken) (e : reading_of t room' ≡ 
       checking_of ((q ∙ ap (λ (y : Taken). checked_by y (verdict_in packet)) (sym p ∙ ap (λ (y : Reading). y.taken) e)) i)
       (ap (λ (y : Reading). y.numbers) e i)
 
-  pub checks_listing : (r : Checked) (n : ℕ) (v : Verdict) → t ≡ taken.Listing n → v ≡ walk_of below_of join_of (listing_in (take n room')) → r ≡ judged_of n v → checking_of r room' ≡ check_in packet room
+  as_listing : (r : Checked) (n : ℕ) (v : Verdict) → t ≡ taken.Listing n → v ≡ walk_of below_of join_of (listing_in (take n room')) → r ≡ judged_of n v → checking_of r room' ≡ check_in packet room
   unfolding checked_by
-  checks_listing r n v p q s =
+  as_listing r n v p q s =
       as_taken r (taken.Listing n) p
       (s
       ∙ ap (judged_of n)
       (q ∙ ap (λ (ns : List ℕ). walk_of below_of join_of (listing_in ns)) (read_numbers packet room room' t e (taken_bounds n p).0 (taken_bounds n p).1 n p)))
 
-  pub checks_fault : (r : Checked) (k place : ℕ) → t ≡ taken.Fault k place → r ≡ checked.Refused k place → checking_of r room' ≡ check_in packet room
-  unfolding checked_by
-  checks_fault r k place p q = as_taken r (taken.Fault k place) p q
+  pub accepts : (n : ℕ) → t ≡ taken.Listing n → verdict_of 0 0 ≡ walk_of below_of join_of (listing_in (take n room')) → checking_of (checked.Accepted n) room' ≡ check_in packet room
+  unfolding judged_of
+  accepts n p q = as_listing (checked.Accepted n) n (verdict_of 0 0) p q (is_equal 0 0 _ _ _ refl refl)
 
-  pub checks_no_room : (r : Checked) → t ≡ taken.NoRoom → r ≡ checked.NoRoom → checking_of r room' ≡ check_in packet room
-  unfolding checked_by
-  checks_no_room r p q = as_taken r taken.NoRoom p q
+  pub refuses : (n : ℕ) (f : Fault) → t ≡ taken.Listing n → verdict_of (number_of f.refusal) f.place ≡ walk_of below_of join_of (listing_in (take n room'))
+      → checking_of (checked.Refused (number_of f.refusal) f.place) room' ≡ check_in packet room
+  unfolding judged_of
+  refuses n f p q =
+      as_listing (checked.Refused (number_of f.refusal) f.place) n (verdict_of (number_of f.refusal) f.place) p q
+      (not_equal (number_of f.refusal) 0 _ _ _ (λ z. some_number f.refusal (sym z)) refl)
 
-pub ruleset checks = (refl, front_fits, front_within, front_is, checks_listing, checks_fault, checks_no_room)
+  pub unread : (x : ReadError) → t ≡ taken_in (Err x) → checking_of (checked_in (Err x)) room' ≡ check_in packet room
+  unfolding checked_by
+  unread (error.Refused f) p = as_taken (checked.Refused (number_of f.refusal) f.place) (taken.Fault (number_of f.refusal) f.place) p refl
+  unread error.NoRoom p = as_taken checked.NoRoom taken.NoRoom p refl
+
+-- the numbers of a listing that is taken stand in front of the room
+module _ (packet room room' : List ℕ) (n : ℕ) (e : reading_of (taken.Listing n) room' ≡ packet_of packet room) (s : length room' ≡ length room) where
+  pub front_fits : n ≤ length room'
+  front_fits = omega (arith, taken_count packet room room' (taken.Listing n) e n refl, taken_bounds packet room room' (taken.Listing n) e n refl)
+
+  pub front_within : length (take n room') ≤ BYTES
+  front_within =
+      omega (
+        arith,
+        taken_count packet room room' (taken.Listing n) e n refl,
+        taken_bounds packet room room' (taken.Listing n) e n refl,
+        length-take-le n room' front_fits,
+      )
+
+  pub front_is : n ≡ length (take n room')
+  front_is = sym (length-take-le n room' front_fits)
+
+pub ruleset fronts = (front_fits, front_within, front_is)
 
 -- a refusal of the walk lies within the list
 else_within : (k at end : ℕ) (rest : Verdict) → at ≤ end → rest.place ≤ end → (or_else k at rest).place ≤ end

@@ -8,6 +8,7 @@ use Rattle.std.proofs.Math.Logic.{⊎_elim}
 use mathlib.Core.List.{List, [], ◌∷◌, ◌++◌}
 use Rattle.std.proofs.lemmas.Bool.{eqb-false}
 use Rattle.choice.specs.Pick.{pick, is_true, is_equal, both, either}
+use Rattle.refusals.specs.Refusals.{Verdict, verdict_of}
 use Rattle.listing.specs.declared.items.Item.{Item}
 use Rattle.listing.specs.declared.items.Item.TheVariants.{Halt, Jmp, Bnz, Load, Store, Compute, ComputeImmediate, Cpush, Cjmp, Label}
 use Rattle.listing.specs.Listing.{Field, LabelContext}
@@ -15,8 +16,7 @@ use Rattle.rules.specs.Context.{Context, target_of}
 use Rattle.rules.specs.Rules.{Premise, ◌unless◌, first_failing, row_of}
 use Rattle.checker.specs.declared.blocks.Block.{Block}
 use Rattle.checker.specs.declared.blocks.Block.TheVariants.{Start, Closed, Open}
-use Rattle.checker.specs.declared.walk.Verdict.{Verdict}
-use Rattle.checker.specs.Walk.{verdict_of, accepted, is_label, label_in, free_of, due_row, enter_row, label_row, or_else, premises_of, walk_from}
+use Rattle.checker.specs.Walk.{accepted, is_label, label_in, free_of, due_row, enter_row, label_row, or_else, premises_of, walk_from}
 use Rattle.checker.specs.Refusal.{table_order, place_in, rank, InOrder, Holds, FirstFailure, NoneBelow, State, behind, reached, row_at, AllHold, FirstRefusal}
 
 -- a row all of whose premises hold has no first failure

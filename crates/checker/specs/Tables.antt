@@ -12,7 +12,7 @@ use Rattle.listing.specs.Limits.{SHAPES, FIELDS, LABELS, STACK, REGISTERS, TOP_L
 use Rattle.listing.specs.Listing.{Field}
 use Rattle.listing.specs.Parts.{parts_from, behind, number_at, count_of, count_at, field_at, shape_at, behind_shape, register_at, registers_place, label_at, behind_label, labels_place, shapes_in, labels_in}
 use Rattle.listing.specs.PartLaws.{parts_none, parts_length, part_stands, no_part, behind_equal}
-use Rattle.rules.specs.Context.{nowhere, no_field, fields_of}
+use Rattle.rules.specs.Context.{nowhere, no_field}
 use Rattle.rules.specs.HeldLaws.{count_within}
 
 -- a table with the places of n parts put in from k on
@@ -103,76 +103,16 @@ no_label ns =
           ∙ parts_none (register_at ns) (λ p. p + 3) (registers_place ns (length ns) + 1) 0 (omega arith)) i;
     }
 
-label_stands : (ns : List ℕ) (l : ℕ) → label_at ns (get_or (label_table ns) l (length ns)) ≡ get_or (labels_in ns) l nowhere
+pub label_stands : (ns : List ℕ) (l : ℕ) → label_at ns (get_or (label_table ns) l (length ns)) ≡ get_or (labels_in ns) l nowhere
 unfolding label_table labels_in
 label_stands ns l =
     table_reads (label_at ns) (behind_label ns) nowhere LABELS (length ns) (count_at LABELS ns (labels_place ns)) (labels_place ns + 1) l (count_within LABELS _) (no_label ns)
 
-shape_stands : (ns : List ℕ) (k : ℕ) → shape_at ns (get_or (shape_table ns) k (length ns)) ≡ get_or (shapes_in ns) k []
+pub shape_stands : (ns : List ℕ) (k : ℕ) → shape_at ns (get_or (shape_table ns) k (length ns)) ≡ get_or (shapes_in ns) k []
 unfolding shape_table shapes_in
 shape_stands ns k = table_reads (shape_at ns) (behind_shape ns) [] SHAPES (length ns) (count_at SHAPES ns 1) 2 k (count_within SHAPES _) (no_shape ns)
 
-tabled_length : (next : ℕ → ℕ) (at k n : ℕ) (table : List ℕ) → length (tabled_from next at k n table) ≡ length table
-unfolding tabled_from
-tabled_length next at k zero table = refl
-tabled_length next at k (suc n) table = tabled_length next (next at) (k + 1) n (set table k at) ∙ length-set table k at
-
-labels_tabled : (ns : List ℕ) → length (label_table ns) ≡ LABELS
-unfolding label_table
-labels_tabled ns = tabled_length (behind_label ns) (labels_place ns + 1) 0 _ (replicate LABELS (length ns)) ∙ length-replicate LABELS (length ns)
-
-shapes_tabled : (ns : List ℕ) → length (shape_table ns) ≡ SHAPES
-unfolding shape_table
-shapes_tabled ns = tabled_length (behind_shape ns) 2 0 _ (replicate SHAPES (length ns)) ∙ length-replicate SHAPES (length ns)
-
--- the place that a table gives, which is read where it has one
-inside : (table : List ℕ) (i d r : ℕ) → i < length table → r ≡ get_or table i 0 → r ≡ get_or table i d
-inside [] i d r h e = absurd (omega arith)
-inside (x ∷ table) zero d r h e = e
-inside (x ∷ table) (suc i) d r h e = inside table i d r (omega arith) e
-
-module _ (ns table : List ℕ) (i r : ℕ) where
-  module _ (is : table ≡ label_table ns) where
-    whole_labels : length table ≡ LABELS
-    whole_labels = ap length is ∙ labels_tabled ns
-
-    label_read : r ≡ get_or table i (length ns) → label_at ns r ≡ get_or (labels_in ns) i nowhere
-    label_read e = ap (label_at ns) (e ∙ ap (λ (t : List ℕ). get_or t i (length ns)) is) ∙ label_stands ns i
-
-    pub label_there : i < LABELS → r ≡ get_or table i 0 → label_at ns r ≡ get_or (labels_in ns) i nowhere
-    label_there h e = label_read (inside table i (length ns) r (omega (arith, whole_labels)) e)
-
-    pub label_not_there : LABELS ≤ i → r ≡ length ns → label_at ns r ≡ get_or (labels_in ns) i nowhere
-    label_not_there h e = label_read (e ∙ sym (get_or-eq_default table (length ns) {n = i} (omega (arith, whole_labels))))
-
-  module _ (is : table ≡ shape_table ns) where
-    whole_shapes : length table ≡ SHAPES
-    whole_shapes = ap length is ∙ shapes_tabled ns
-
-    shape_read : r ≡ get_or table i (length ns) → shape_at ns r ≡ get_or (shapes_in ns) i []
-    shape_read e = ap (shape_at ns) (e ∙ ap (λ (t : List ℕ). get_or t i (length ns)) is) ∙ shape_stands ns i
-
-    shape_in : i < SHAPES → r ≡ get_or table i 0 → shape_at ns r ≡ get_or (shapes_in ns) i []
-    shape_in h e = shape_read (inside table i (length ns) r (omega (arith, whole_shapes)) e)
-
-    shape_out : SHAPES ≤ i → r ≡ length ns → shape_at ns r ≡ get_or (shapes_in ns) i []
-    shape_out h e = shape_read (e ∙ sym (get_or-eq_default table (length ns) {n = i} (omega (arith, whole_shapes))))
-
-module _ (ns table : List ℕ) (kind r : ℕ) (is : table ≡ shape_table ns) where
-  pub shape_first : kind < 1 → r ≡ get_or table 0 0 → shape_at ns r ≡ fields_of (shapes_in ns) kind
-  shape_first h e =
-      let first : 0 ≡ kind - 1 = omega arith in
-      shape_in ns table 0 r is (omega arith) e ∙ ap (λ (i : ℕ). get_or (shapes_in ns) i []) first
-
-  pub shape_there : kind < SHAPES + 1 → 1 ≤ kind → r ≡ get_or table (kind - 1) 0 → shape_at ns r ≡ fields_of (shapes_in ns) kind
-  shape_there h k e = shape_in ns table (kind - 1) r is (omega arith) e
-
-  pub shape_not_there : SHAPES + 1 ≤ kind → r ≡ length ns → shape_at ns r ≡ fields_of (shapes_in ns) kind
-  shape_not_there h e = shape_out ns table (kind - 1) r is (omega arith) e
-
-pub ruleset finds = (refl, label_there, label_not_there, shape_first, shape_there, shape_not_there)
-
--- the turns of the loops that fill a table
+-- the turns of the loop that fills a table
 module _ (whole table : List ℕ) (next : ℕ → ℕ) (at k n : ℕ) (inv : whole ≡ tabled_from next at k (n - k) table) where
   pub table_turn : (after : List ℕ) (behind : ℕ) → k < n → after ≡ set table k at → behind ≡ next at → whole ≡ tabled_from next behind (k + 1) (n - (k + 1)) after
   unfolding tabled_from
@@ -184,21 +124,7 @@ module _ (whole table : List ℕ) (next : ℕ → ℕ) (at k n : ℕ) (inv : who
   unfolding tabled_from
   table_end h = let none : n - k ≡ 0 = omega arith in sym (inv ∙ ap (λ (m : ℕ). tabled_from next at k m table) none)
 
--- where the loops begin
-pub shapes_begin : (ns table : List ℕ) (n : ℕ) → n ≡ count_at SHAPES ns 1 → table ≡ replicate SHAPES (length ns) → shape_table ns ≡ tabled_from (behind_shape ns) 2 0 (n - 0) table
-unfolding shape_table
-shapes_begin ns table n e t =
-    let all : count_at SHAPES ns 1 ≡ n - 0 = omega (arith, e) in
-    λ i. tabled_from (behind_shape ns) 2 0 (all i) (sym t i)
-
-pub labels_begin : (ns table : List ℕ) (n place : ℕ) → place ≡ labels_place ns → n ≡ count_at LABELS ns place → table ≡ replicate LABELS (length ns)
-    → label_table ns ≡ tabled_from (behind_label ns) (place + 1) 0 (n - 0) table
-unfolding label_table
-labels_begin ns table n place p e t =
-    let all : count_at LABELS ns (labels_place ns) ≡ n - 0 = ap (count_at LABELS ns) (sym p) ∙ sym e ∙ omega arith in
-    λ i. tabled_from (behind_label ns) (sym p i + 1) 0 (all i) (sym t i)
-
-pub ruleset tablings = (refl, shapes_begin, labels_begin, table_turn, table_end)
+pub ruleset tablings = (refl, table_turn, table_end)
 
 -- a field of a shape, of which there are n
 module _ (ns : List ℕ) (place c n : ℕ) (counted : n ≡ count_at FIELDS ns place) where

@@ -4,6 +4,7 @@ use Rattle.std.proofs.Common.{sym, ap, ◌∙◌}
 use Rattle.std.proofs.Math.Path.{subst}
 use Rattle.std.proofs.Math.Nat.{zero-add}
 use Rattle.choice.specs.Pick.{is_equal}
+use Rattle.refusals.specs.Refusals.{verdict_of}
 use Rattle.levels.specs.Sets.{below_of, join_of}
 use Rattle.listing.specs.Limits.{BYTES}
 use Rattle.listing.specs.Listing.{Listing, Ranges, numbers_of}
@@ -11,8 +12,8 @@ use Rattle.listing.specs.Packet.{numbers_in, taken_of}
 use Rattle.listing.specs.Parts.{listing_in}
 use Rattle.listing.specs.Bytes.{packet_bytes}
 use Rattle.listing.specs.Theorems.{listing_is_taken, packet_read, taken_is_listed, packet_is_listing}
-use Rattle.checker.specs.declared.packets.Checked.TheVariants as checked
-use Rattle.checker.specs.Walk.{verdict_of, accepted, walk_of}
+use Rattle.checker.specs.Checked as checked
+use Rattle.checker.specs.Walk.{accepted, walk_of}
 use Rattle.checker.specs.Judgement.{WellTyped}
 use Rattle.checker.specs.Check.{verdict_in, judged_of, checked_by, check_of}
 use Rattle.checker.specs.CheckLaws.{accepted_taken, verdict_zero}

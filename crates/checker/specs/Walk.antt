@@ -1,6 +1,7 @@
 -- 01, "The typing rules" and "Refusal numbers": the walk down the items. The first premise that fails is the answer, with its item's place; at the end 21 and then 22, with the item count.
 use Rattle.std.specs.Prelude.{ℕ, zero, suc, ◌+◌, Bool, true, false, List, [], ◌∷◌, length, get_or, set, replicate, eqb}
 use Rattle.choice.specs.Pick.{pick}
+use Rattle.refusals.specs.Refusals.{Verdict, verdict_of}
 use Rattle.listing.specs.declared.items.Item.{Item}
 use Rattle.listing.specs.declared.items.Item.TheVariants.{Halt, Jmp, Bnz, Load, Store, Compute, ComputeImmediate, Cpush, Cjmp, Label}
 use Rattle.listing.specs.Limits.{LABELS}
@@ -10,12 +11,8 @@ use Rattle.rules.specs.Context.{Context, context_of, no_registers, target_of}
 use Rattle.rules.specs.Rules.{Premise, ◌unless◌, first_failing, jump_row, row_of, after_of}
 use Rattle.checker.specs.declared.blocks.Block.{Block}
 use Rattle.checker.specs.declared.blocks.Block.TheVariants.{Start, Closed, Open}
-use Rattle.checker.specs.declared.walk.Verdict.{Verdict}
 
--- the number and place of a refusal; 0 and 0 is accepted
-abbrev pub verdict_of : ℕ → ℕ → Verdict
-verdict_of number place = record { number = number; place = place }
-
+-- the verdict of a listing that is accepted
 abbrev pub accepted : Verdict
 accepted = verdict_of 0 0
 

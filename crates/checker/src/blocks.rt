@@ -1,105 +1,69 @@
 // Blocks: where the walk is, and the first refusal of a label or of another item there.
-ghost use Rattle.std.specs.Prelude.{◌≡◌, ◌≤◌, length, true, false};
+ghost use Rattle.std.specs.Prelude.{◌≡◌, false, true};
 ghost use Rattle.choice.specs.Pick.{pick};
+ghost use Rattle.refusals.specs.Refusals.{number_in};
 ghost use Rattle.levels.specs.Sets.{below_of, join_of};
-ghost use Rattle.listing.specs.Limits.{BYTES};
-ghost use Rattle.listing.specs.Parts.{shapes_in, labels_in, label_at};
+ghost use Rattle.listing.specs.Parts.{shapes_in, labels_in};
 ghost use Rattle.rules.specs.Rules.{first_failing, row_of};
-ghost use Rattle.rules.specs.Held.{context_in};
-ghost use Rattle.checker.specs.Walk.{is_label, block_after, due_row, label_row, is_open};
-ghost use Rattle.checker.specs.Tables.{shape_table, label_table};
+ghost use Rattle.rules.specs.Held.{context_in, label_in};
+ghost use Rattle.checker.specs.Walk.{block_after, due_row, label_row, is_open};
 
-use crate::items::rule;
+use crate::tables::Tabled;
 use listing::Item;
-use rules::numbers::{FIRST_STACK, NO_LABEL, PLACED_TWICE};
-use rules::{Held, jump, label_depth, unless};
+use refusals::Refusal;
+use rules::{Held, Label, jump, require};
 
 // Where the walk is: before the first item, behind an item that closed its block, or in a block.
-#[derive(Clone, Copy)]
+#[derive(Clone, Copy, Debug, PartialEq, Eq)]
 pub enum Block {
     Start,
     Closed,
     Open,
 }
 
-// Whether an item is a label.
-pub fn is_label(item: Item) -> bool
-    ensures { result ≡ is_label item }
-{
-    match item {
-        Item::Label(_) => true,
-        Item::Halt => false,
-        Item::Jmp(_) => false,
-        Item::Bnz(_, _) => false,
-        Item::Load(_, _, _) => false,
-        Item::Store(_, _, _) => false,
-        Item::Compute(_, _, _, _) => false,
-        Item::ComputeImmediate(_, _, _, _) => false,
-        Item::Cpush(_) => false,
-        Item::Cjmp(_) => false,
-    }
-}
-
-// How an item leaves the block.
-pub fn block_after(item: Item) -> Block
-    ensures { result ≡ block_after item }
-{
-    match item {
-        Item::Halt => Block::Closed,
-        Item::Jmp(_) => Block::Closed,
-        Item::Cjmp(_) => Block::Closed,
-        Item::Bnz(_, _) => Block::Open,
-        Item::Load(_, _, _) => Block::Open,
-        Item::Store(_, _, _) => Block::Open,
-        Item::Compute(_, _, _, _) => Block::Open,
-        Item::ComputeImmediate(_, _, _, _) => Block::Open,
-        Item::Cpush(_) => Block::Open,
-        Item::Label(_) => Block::Open,
-    }
-}
-
-// The first refusal of the label at a place.
-pub fn label_fault(block: Block, c: Held, unplaced: bool, numbers: &[u32], place: u32) -> u8
-    ensures { result ≡ first_failing (label_row below_of join_of block (context_in c) unplaced (label_at numbers.now place)) }
-{
-    match block {
-        Block::Start => {
-            let first = unless(FIRST_STACK, label_depth(numbers, place) == 0, 0);
-            unless(PLACED_TWICE, unplaced, first)
+impl Block {
+    // How an item leaves the block.
+    pub fn after(item: Item) -> Block
+        ensures { result ≡ block_after item }
+    {
+        match item {
+            Item::Halt | Item::Jmp(_) | Item::Cjmp(_) => Block::Closed,
+            _ => Block::Open,
         }
-        Block::Closed => unless(PLACED_TWICE, unplaced, 0),
-        Block::Open => unless(PLACED_TWICE, unplaced, jump(c.level, c, numbers, place)),
     }
-}
 
-// The first refusal of an item that is no label.
-pub fn item_fault(
-    block: Block,
-    c: Held,
-    item: Item,
-    numbers: &[u32],
-    shapes: &[u32; 64],
-    labels: &[u32; 128],
-) -> u8
-    requires numbers_len_bound { length numbers.now ≤ BYTES }
-    requires shapes_value { shapes.now ≡ shape_table numbers.now }
-    requires labels_value { labels.now ≡ label_table numbers.now }
-    ensures { result ≡ first_failing (due_row block (row_of below_of join_of (shapes_in numbers.now) (labels_in numbers.now) (context_in c) item)) }
-{
-    match block {
-        Block::Start => NO_LABEL,
-        Block::Closed => NO_LABEL,
-        Block::Open => rule(c, item, numbers, shapes, labels),
+    // Whether no block is open.
+    #[tactic(auto, unfolding(crate::specs::Walk::is_open, choice::specs::Pick::pick))]
+    pub fn is_closed(self) -> bool
+        ensures { result ≡ pick (is_open self) false true }
+    {
+        match self {
+            Block::Start | Block::Closed => true,
+            Block::Open => false,
+        }
     }
-}
 
-// Whether no block is open.
-pub fn is_closed(block: Block) -> bool
-    ensures { result ≡ pick (is_open block) false true }
-{
-    match block {
-        Block::Start => true,
-        Block::Closed => true,
-        Block::Open => false,
+    // What refuses a label here, first.
+    #[tactic(auto, unfolding(crate::specs::Walk::enter_row, rules::specs::Rules::first_failing, choice::specs::Pick::pick))]
+    pub fn label_rule(self, c: &Held, unplaced: bool, target: Label) -> Result<(), Refusal>
+        ensures { number_in result ≡ first_failing (label_row below_of join_of self (context_in c.now) unplaced (label_in target.entry)) }
+    {
+        require(unplaced, Refusal::PlacedTwice)?;
+        match self {
+            Block::Start => require(target.depth() == 0, Refusal::FirstStack),
+            Block::Closed => Ok(()),
+            Block::Open => jump(c.level, c, target),
+        }
+    }
+
+    // What refuses an item here that is no label, first.
+    #[tactic(auto, unfolding(crate::specs::Walk::due_row, rules::specs::Rules::first_failing, choice::specs::Pick::pick))]
+    pub fn item_rule(self, c: &Held, item: Item, listing: &Tabled) -> Result<(), Refusal>
+        ensures { number_in result ≡ first_failing (due_row self (row_of below_of join_of (shapes_in listing.now.numbers.now) (labels_in listing.now.numbers.now) (context_in c.now) item)) }
+    {
+        match self {
+            Block::Open => listing.rule(c, item),
+            Block::Start | Block::Closed => Err(Refusal::NoLabel),
+        }
     }
 }

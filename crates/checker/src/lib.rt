@@ -11,8 +11,7 @@ mod placed;
 mod tables;
 mod walk;
 
-pub use packets::{Checked, check};
+pub use packets::check;
 
-// For programs that say why a listing is refused: the context behind an item, and the fields of a shape.
-pub use items::{changed, raised};
+// For programs that say why a listing is refused: the fields of a shape.
 pub use tables::{field_count, field_kind, field_level};

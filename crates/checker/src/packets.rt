@@ -1,37 +1,18 @@
 // The checker on packets: the reader's refusal, or the walk's.
 ghost use Rattle.std.specs.Prelude.{◌≡◌};
-ghost use Rattle.checker.specs.Check.{judged_of, checking_of, check_in};
+ghost use Rattle.checker.specs.Check.{checking_of, check_in};
+ghost use Rattle.checker.specs.Checked.{checked_in};
 
-use crate::walk::{Verdict, walk};
-use listing::Taken;
+use crate::walk::walk;
+use listing::ReadError;
 
-// What a packet is: accepted, a listing of so many numbers; refused, with the number and place; or
-// there is less room for its numbers than it has bytes.
-#[derive(Clone, Copy)]
-pub enum Checked {
-    Accepted(usize),
-    Refused(u8, usize),
-    NoRoom,
-}
-
-// A listing of n numbers by its verdict.
-fn judged(n: usize, v: Verdict) -> Checked
-    ensures { result ≡ judged_of n v }
+// Checks a packet, whose numbers are read into room, as listing::read says: how many numbers an
+// accepted listing has, or why it is refused and where.
+#[tactic(auto, using(crate::specs::CheckLaws::fronts))]
+pub fn check(packet: &[u8], room: &mut [u32]) -> Result<usize, ReadError>
+    ensures { checking_of (checked_in result) room.new ≡ check_in packet.now room.old }
 {
-    if v.number == 0 {
-        Checked::Accepted(n)
-    } else {
-        Checked::Refused(v.number, v.place as usize)
-    }
-}
-
-// Checks a packet, whose numbers are read into room, as listing::read says.
-pub fn check(packet: &[u8], room: &mut [u32]) -> Checked
-    ensures { checking_of result room.new ≡ check_in packet.now room.old }
-{
-    match listing::read(packet, room) {
-        Taken::Listing(n) => judged(n, walk(&room[..n])),
-        Taken::Fault(k, place) => Checked::Refused(k, place),
-        Taken::NoRoom => Checked::NoRoom,
-    }
+    let n = listing::read(packet, room)?;
+    walk(&room[..n])?;
+    Ok(n)
 }

@@ -1,4 +1,5 @@
-// The labels placed so far, each that may occur: whether one is free, and whether none is missing.
+// The labels placed so far, each that may occur: whether one is free, and whether none is missing. The
+// array goes through the walk by value, as 01 has it.
 ghost use Rattle.std.specs.Prelude.{◌≡◌, ◌≤◌, set, true};
 ghost use Rattle.listing.specs.Limits.{LABELS};
 ghost use Rattle.checker.specs.Walk.{free_of, all_from};
@@ -8,13 +9,7 @@ pub fn free(placed: [bool; 128], l: u32) -> bool
     ensures { result ≡ free_of placed l }
 {
     let i = l as usize;
-    if i < 128 {
-        if placed[i] {
-            return false;
-        }
-        return true;
-    }
-    true
+    !(i < 128 && placed[i])
 }
 
 // The same with a label placed.
@@ -25,22 +20,18 @@ pub fn with_placed(placed: [bool; 128], l: u32) -> [bool; 128]
     let mut after = placed;
     if i < 128 {
         after[i] = true;
-        return after;
     }
     after
 }
 
 // Whether each of the first n labels is placed.
+#[tactic(auto, using(crate::specs::WalkLaws::placings))]
 pub fn all_placed(placed: [bool; 128], n: u32) -> bool
     requires { n ≤ LABELS }
     ensures { result ≡ all_from placed 0 n }
 {
-    let end = n as usize;
-    let mut i = 0;
-    while i < end {
-        if placed[i] {
-            i += 1;
-        } else {
+    for i in 0..n as usize {
+        if !placed[i] {
             return false;
         }
     }

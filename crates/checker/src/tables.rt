@@ -1,81 +1,88 @@
 // Tables of places: where each shape and each label of a listing begins, and the reading of fields.
-ghost use Rattle.std.specs.Prelude.{◌≡◌, ◌≤◌, ◌-◌, [], length, get_or};
+ghost use Rattle.std.specs.Prelude.{◌≡◌, ◌≤◌, ◌<◌, ◌+◌, ◌*◌, ◌^◌, length, get_or};
 ghost use Rattle.listing.specs.Limits.{BYTES};
-ghost use Rattle.listing.specs.Parts.{shape_at, label_at, labels_place, labels_in, shapes_in};
-ghost use Rattle.listing.specs.PlaceLaws.{TOP_LABELS_PLACE};
-ghost use Rattle.rules.specs.Context.{nowhere, no_field, fields_of};
-ghost use Rattle.checker.specs.Tables.{shape_table, label_table};
+ghost use Rattle.listing.specs.Parts.{shape_at, labels_in, shapes_in};
+ghost use Rattle.rules.specs.Context.{target_of, no_field, fields_of};
+ghost use Rattle.rules.specs.Held.{label_in};
+ghost use Rattle.checker.specs.Tables.{table_of, shape_table, label_table};
 
 use listing::limits::{FIELDS, LABELS, SHAPES, TOP_LEVEL};
-use listing::{at_most, behind_label, behind_shape, count_at, number_at};
+use listing::{Labels, Part, Shapes, at_most, count_at, labels_place, number_at};
+use rules::Label;
 
-// The places of the shapes.
-pub fn shape_table(numbers: &[u32]) -> [u32; 64]
-    requires { length numbers.now ≤ BYTES }
-    ensures { result ≡ shape_table numbers.now }
+// The places of n parts of one sort, the first at a place; past them the end of the numbers.
+fn places<P: Part, const N: usize>(numbers: &[u32], first: u32, n: u32) -> [u32; N]
+    requires short { length numbers.now ≤ BYTES }
+    requires room { n ≤ N }
+    requires near { first + P.most * n < 2 ^ 31 }
+    ensures { result ≡ table_of N (length numbers.now) (P.next numbers.now) first n }
 {
-    let mut table = [numbers.len() as u32; 64];
-    let n = count_at(SHAPES, numbers, 1) as usize;
-    let mut at = 2;
-    let mut k = 0;
-    while k < n {
+    let mut table = [numbers.len() as u32; N];
+    let mut at = first;
+    for k in 0..n as usize {
         table[k] = at;
-        at = behind_shape(numbers, at);
-        k += 1;
+        at = P::behind(numbers, at);
     }
     table
 }
 
-// The places of the labels, whose count stands at a place.
-pub fn label_table(numbers: &[u32], place: u32) -> [u32; 128]
-    requires numbers_len_bound { length numbers.now ≤ BYTES }
-    requires place_value { place ≡ labels_place numbers.now }
-    requires place_bound { place ≤ TOP_LABELS_PLACE }
-    ensures { result ≡ label_table numbers.now }
-{
-    let mut table = [numbers.len() as u32; 128];
-    let n = count_at(LABELS, numbers, place) as usize;
-    let mut at = place + 1;
-    let mut k = 0;
-    while k < n {
-        table[k] = at;
-        at = behind_label(numbers, at);
-        k += 1;
-    }
-    table
+// A listing by its numbers, with the places of its shapes and of its labels: arrays for as many as there
+// may be, since there is no heap.
+#[derive(Drop)]
+pub struct Tabled<'a> {
+    pub numbers: &'a [u32],
+    shapes: [u32; 64],
+    labels: [u32; 128],
+    ghost short: { length numbers.now ≤ BYTES },
+    ghost shapes_are: { shapes ≡ shape_table numbers.now },
+    ghost labels_are: { labels ≡ label_table numbers.now },
 }
 
-// Where a label's context stands.
-pub fn label_place(numbers: &[u32], table: &[u32; 128], l: u32) -> u32
-    requires numbers_len_bound { length numbers.now ≤ BYTES }
-    requires table_value { table.now ≡ label_table numbers.now }
-    ensures { label_at numbers.now result ≡ get_or (labels_in numbers.now) l nowhere }
-{
-    let i = l as usize;
-    if i < 128 {
-        table[i]
-    } else {
-        numbers.len() as u32
+impl<'a> Tabled<'a> {
+    #[tactic(auto, unfolding(crate::specs::Tables::shape_table, crate::specs::Tables::label_table))]
+    pub fn new(numbers: &'a [u32]) -> Tabled<'a>
+        requires { length numbers.now ≤ BYTES }
+        ensures { result.numbers.now ≡ numbers.now }
+    {
+        let place = labels_place(numbers);
+        let shapes = places::<Shapes, 64>(numbers, 2, count_at(SHAPES, numbers, 1));
+        let labels = places::<Labels, 128>(numbers, place + 1, count_at(LABELS, numbers, place));
+        Tabled {
+            numbers,
+            shapes,
+            labels,
+        }
     }
-}
 
-// Where the shape stands that a pointer of a kind goes to.
-pub fn shape_place(numbers: &[u32], table: &[u32; 64], kind: u8) -> u32
-    requires numbers_len_bound { length numbers.now ≤ BYTES }
-    requires table_value { table.now ≡ shape_table numbers.now }
-    ensures { shape_at numbers.now result ≡ fields_of (shapes_in numbers.now) kind }
-{
-    let i = kind as usize;
-    if i < 1 {
-        return table[0];
+    // The place that a table has at i; past its end that of the end of the numbers.
+    fn place_in(&self, table: &[u32], i: usize) -> u32
+        ensures { result ≡ get_or table.now i (length self.now.numbers.now) }
+    {
+        table.get(i).copied().unwrap_or(self.numbers.len() as u32)
     }
-    if i < 65 {
-        return table[i - 1];
+
+    // A label.
+    #[tactic(auto, using(crate::specs::Tables::label_stands))]
+    pub fn label(&self, l: u32) -> Label<'a>
+        ensures { label_in result ≡ target_of (labels_in self.now.numbers.now) l }
+    {
+        Label {
+            numbers: self.numbers,
+            place: self.place_in(&self.labels, l as usize),
+        }
     }
-    numbers.len() as u32
+
+    // Where the shape stands that a pointer of a kind goes to.
+    #[tactic(auto, using(crate::specs::Tables::shape_stands))]
+    pub fn shape_place(&self, kind: u8) -> u32
+        ensures { shape_at self.now.numbers.now result ≡ fields_of (shapes_in self.now.numbers.now) kind }
+    {
+        self.place_in(&self.shapes, (kind as usize).saturating_sub(1))
+    }
 }
 
 // How many fields the shape at a place has.
+#[tactic(auto, using(crate::specs::Tables::fields))]
 pub fn field_count(numbers: &[u32], place: u32) -> u32
     ensures { result ≡ length (shape_at numbers.now place) }
 {
@@ -84,6 +91,7 @@ pub fn field_count(numbers: &[u32], place: u32) -> u32
 
 // A field of the shape at a place: its kind and its level, 0 where it has no such field.
 
+#[tactic(auto, using(crate::specs::Tables::fields))]
 pub fn field_kind(numbers: &[u32], place: u32, c: u32) -> u8
     ensures { result ≡ (get_or (shape_at numbers.now place) c no_field).kind }
 {
@@ -97,6 +105,7 @@ pub fn field_kind(numbers: &[u32], place: u32, c: u32) -> u8
     }
 }
 
+#[tactic(auto, using(crate::specs::Tables::fields))]
 pub fn field_level(numbers: &[u32], place: u32, c: u32) -> u32
     ensures { result ≡ (get_or (shape_at numbers.now place) c no_field).level }
 {

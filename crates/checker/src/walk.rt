@@ -1,132 +1,161 @@
 // The walk down the items, with the current context and the labels placed so far.
-ghost use Rattle.std.specs.Prelude.{◌≡◌, ◌≤◌, length};
+ghost use Rattle.std.specs.Prelude.{◌≡◌, ◌≤◌, ◌<◌, ◌+◌, OnOk, false, length};
+ghost use Rattle.refusals.specs.Refusals.{number_in, verdict_in};
 ghost use Rattle.levels.specs.Sets.{below_of, join_of};
-ghost use Rattle.listing.specs.Limits.{BYTES};
-ghost use Rattle.listing.specs.Limits;
-ghost use Rattle.listing.specs.Parts.{labels_in, listing_in, items_place};
-ghost use Rattle.listing.specs.PlaceLaws.{TOP_ITEMS_PLACE};
+ghost use Rattle.listing.specs.declared.items.Item.TheVariants.{Label};
+ghost use Rattle.listing.specs.Limits.{BYTES, LABELS, ITEMS};
+ghost use Rattle.listing.specs.Parts.{shapes_in, labels_in, listing_in};
 ghost use Rattle.rules.specs.Rules.{first_failing};
-ghost use Rattle.checker.specs.Walk.{accepted, or_else, end_row, walk_of};
-ghost use Rattle.checker.specs.Tables.{shape_table, label_table};
+ghost use Rattle.rules.specs.Held.{context_in};
+ghost use Rattle.checker.specs.Walk.{accepted, or_else, end_row, is_label, premises_of, walk_of};
+ghost use Rattle.checker.specs.Refusal.{behind, start};
+ghost use Rattle.checker.specs.States.{state_in};
 
-use crate::blocks::{Block, block_after, is_closed, is_label, item_fault, label_fault};
-use crate::items::{held_after, write_of};
+use crate::blocks::Block;
 use crate::placed::{all_placed, free, with_placed};
-use crate::tables::{label_place, label_table, shape_table};
-use listing::limits::{ITEMS, LABELS};
-use listing::{behind_item, count_at, item_at, items_place, labels_place, number_at};
-use rules::numbers::{NEVER_PLACED, OPEN_END};
-use rules::{Slot, enter, nothing, unless};
+use crate::tables::Tabled;
+use listing::{Item, count_at, each_item, labels_place, limits};
+use refusals::{Fault, Refusal};
+use rules::{Held, require};
 
-// A refusal's number and place; both are 0 where the listing is accepted.
+// Where the walk stands: before which item, in or out of a block, with a context, and with some labels
+// placed.
 #[derive(Clone, Copy)]
-pub struct Verdict {
-    pub number: u8,
-    pub place: u32,
+pub struct Standing {
+    pub place: usize,
+    pub block: Block,
+    pub held: Held,
+    pub placed: [bool; 128],
 }
 
-// The end of a list of so many items, whose first n labels are its own.
-fn end(block: Block, placed: [bool; 128], n: u32, at: u32) -> Verdict
-    requires { n ≤ Limits.LABELS }
-    ensures { result ≡ or_else (first_failing (end_row n block placed)) at accepted }
-{
-    let all = unless(NEVER_PLACED, all_placed(placed, n), 0);
-    let k = unless(OPEN_END, is_closed(block), all);
-    if k == 0 {
-        return Verdict {
-            number: 0,
+impl Standing {
+    // Before the first item.
+    #[tactic(auto, unfolding(crate::specs::Refusal::start))]
+    fn start() -> Standing
+        ensures state { state_in result ≡ start }
+        ensures place { result.place ≡ 0 }
+    {
+        Standing {
             place: 0,
-        };
-    }
-    Verdict {
-        number: k,
-        place: at,
-    }
-}
-
-// The walk over the items, whose count stands at a place.
-fn walk_items(
-    numbers: &[u32],
-    shapes: &[u32; 64],
-    labels: &[u32; 128],
-    n: u32,
-    place: u32,
-) -> Verdict
-    requires numbers_len_bound { length numbers.now ≤ BYTES }
-    requires shapes_value { shapes.now ≡ shape_table numbers.now }
-    requires labels_value { labels.now ≡ label_table numbers.now }
-    requires n_value { n ≡ length (labels_in numbers.now) }
-    requires n_bound { n ≤ Limits.LABELS }
-    requires place_value { place ≡ items_place numbers.now }
-    requires place_bound { place ≤ TOP_ITEMS_PLACE }
-    ensures { result ≡ walk_of below_of join_of (listing_in numbers.now) }
-{
-    let count = count_at(ITEMS, numbers, place);
-    let mut block = Block::Start;
-    let mut held = nothing();
-    let mut placed = [false; 128];
-    let mut at = place + 1;
-    let mut i = 0;
-    while i < count {
-        let item = item_at(numbers, at);
-        if is_label(item) {
-            let l = number_at(numbers, at as usize + 1);
-            let target = label_place(numbers, labels, l);
-            let k = label_fault(block, held, free(placed, l), numbers, target);
-            if k == 0 {
-                let next = with_placed(placed, l);
-                placed = next;
-                let entered = enter(numbers, target);
-                held = entered;
-                block = Block::Open;
-                at = behind_item(numbers, at);
-                i += 1;
-            } else {
-                return Verdict {
-                    number: k,
-                    place: i,
-                };
-            }
-        } else {
-            let k = item_fault(block, held, item, numbers, shapes, labels);
-            if k == 0 {
-                let write = write_of(held, item, numbers, shapes);
-                let rd = write.at as usize;
-                if rd < 16 {
-                    held.registers[rd] = Slot {
-                        listed: true,
-                        kind: write.kind,
-                        level: write.level,
-                    };
-                    block = Block::Open;
-                    at = behind_item(numbers, at);
-                    i += 1;
-                } else {
-                    let after = held_after(held, item, numbers, shapes, labels);
-                    held = after;
-                    block = block_after(item);
-                    at = behind_item(numbers, at);
-                    i += 1;
-                }
-            } else {
-                return Verdict {
-                    number: k,
-                    place: i,
-                };
-            }
+            block: Block::Start,
+            held: Held::nothing(),
+            placed: [false; 128],
         }
     }
-    end(block, placed, n, i)
+
+    // Goes past a label, if nothing refuses it.
+    #[tactic(auto, unfolding(crate::specs::Walk::premises_of, crate::specs::Walk::is_label, crate::specs::Walk::label_in, crate::specs::Walk::block_after, rules::specs::Rules::after_of, choice::specs::Pick::pick))]
+    fn pass_label(&mut self, listing: &Tabled, l: u32) -> Result<(), Refusal>
+        ensures number { number_in result ≡ first_failing (premises_of below_of join_of (shapes_in listing.now.numbers.now) (labels_in listing.now.numbers.now) self.old.block (context_in self.old.held) self.old.placed (Label l)) }
+        ensures behind { OnOk result (state_in self.new ≡ behind below_of join_of (shapes_in listing.now.numbers.now) (labels_in listing.now.numbers.now) (state_in self.old) (Label l)) }
+        ensures place { self.new.place ≡ self.old.place }
+    {
+        let target = listing.label(l);
+        self.block
+            .label_rule(&self.held, free(self.placed, l), target)?;
+        self.block = Block::Open;
+        self.held = target.enter();
+        self.placed = with_placed(self.placed, l);
+        Ok(())
+    }
+
+    // Goes past an item that is no label, if nothing refuses it.
+    #[tactic(auto, using(crate::specs::BlockLaws::others))]
+    fn pass_other(&mut self, listing: &Tabled, item: Item) -> Result<(), Refusal>
+        requires { is_label item ≡ false }
+        ensures number { number_in result ≡ first_failing (premises_of below_of join_of (shapes_in listing.now.numbers.now) (labels_in listing.now.numbers.now) self.old.block (context_in self.old.held) self.old.placed item) }
+        ensures behind { OnOk result (state_in self.new ≡ behind below_of join_of (shapes_in listing.now.numbers.now) (labels_in listing.now.numbers.now) (state_in self.old) item) }
+        ensures place { self.new.place ≡ self.old.place }
+    {
+        self.block.item_rule(&self.held, item, listing)?;
+        self.block = Block::after(item);
+        listing.go_past(&mut self.held, item);
+        Ok(())
+    }
+
+    // Goes past an item, if nothing refuses it.
+    #[tactic(auto, using(crate::specs::BlockLaws::other))]
+    fn pass(&mut self, listing: &Tabled, item: Item) -> Result<(), Refusal>
+        ensures number { number_in result ≡ first_failing (premises_of below_of join_of (shapes_in listing.now.numbers.now) (labels_in listing.now.numbers.now) self.old.block (context_in self.old.held) self.old.placed item) }
+        ensures behind { OnOk result (state_in self.new ≡ behind below_of join_of (shapes_in listing.now.numbers.now) (labels_in listing.now.numbers.now) (state_in self.old) item) }
+        ensures place { self.new.place ≡ self.old.place }
+    {
+        match item {
+            Item::Label(l) => self.pass_label(listing, l),
+            _ => self.pass_other(listing, item),
+        }
+    }
+
+    // Goes on to the next item, if nothing refuses this one.
+    #[tactic(auto, using(crate::specs::WalkLaws::faults))]
+    fn step(&mut self, listing: &Tabled, item: Item) -> Result<(), Fault>
+        requires { self.old.place < ITEMS }
+        ensures verdict { verdict_in result ≡ or_else (first_failing (premises_of below_of join_of (shapes_in listing.now.numbers.now) (labels_in listing.now.numbers.now) self.old.block (context_in self.old.held) self.old.placed item)) self.old.place accepted }
+        ensures behind { OnOk result (state_in self.new ≡ behind below_of join_of (shapes_in listing.now.numbers.now) (labels_in listing.now.numbers.now) (state_in self.old) item) }
+        ensures place { OnOk result (self.new.place ≡ self.old.place + 1) }
+    {
+        match self.pass(listing, item) {
+            Ok(()) => {
+                self.place += 1;
+                Ok(())
+            }
+            Err(refusal) => Err(self.fault(refusal)),
+        }
+    }
+
+    // A refusal of what stands here.
+    fn fault(&self, refusal: Refusal) -> Fault
+        ensures refusal { result.refusal ≡ refusal }
+        ensures place { result.place ≡ self.now.place }
+    {
+        Fault {
+            refusal,
+            place: self.place,
+        }
+    }
+
+    // What refuses the end of a listing's items here, first; n labels are its own.
+    #[tactic(auto, unfolding(rules::specs::Rules::first_failing, choice::specs::Pick::pick))]
+    fn end_rule(&self, n: u32) -> Result<(), Refusal>
+        requires { n ≤ LABELS }
+        ensures { number_in result ≡ first_failing (end_row n self.now.block self.now.placed) }
+    {
+        require(self.block.is_closed(), Refusal::OpenEnd)?;
+        require(all_placed(self.placed, n), Refusal::NeverPlaced)
+    }
+
+    // The verdict at the end of the items.
+    #[tactic(auto, using(crate::specs::WalkLaws::faults))]
+    fn end(&self, n: u32) -> Result<(), Fault>
+        requires { n ≤ LABELS }
+        ensures { verdict_in result ≡ or_else (first_failing (end_row n self.now.block self.now.placed)) self.now.place accepted }
+    {
+        match self.end_rule(n) {
+            Ok(()) => Ok(()),
+            Err(refusal) => Err(self.fault(refusal)),
+        }
+    }
+}
+
+// The walk over the items of a listing of n labels.
+fn walk_items(listing: &Tabled, n: u32) -> Result<(), Fault>
+    requires n_value { n ≡ length (labels_in listing.now.numbers.now) }
+    requires n_bound { n ≤ LABELS }
+    ensures { verdict_in result ≡ walk_of below_of join_of (listing_in listing.now.numbers.now) }
+{
+    let mut standing = Standing::start();
+    for item in each_item(listing.numbers) {
+        standing.step(listing, item)?;
+    }
+    standing.end(n)
 }
 
 // The walk of a listing, given by its numbers.
-pub fn walk(numbers: &[u32]) -> Verdict
+#[tactic(auto, using(crate::specs::WalkLaws::labels_counted))]
+pub fn walk(numbers: &[u32]) -> Result<(), Fault>
     requires { length numbers.now ≤ BYTES }
-    ensures { result ≡ walk_of below_of join_of (listing_in numbers.now) }
+    ensures { verdict_in result ≡ walk_of below_of join_of (listing_in numbers.now) }
 {
-    let place = labels_place(numbers);
-    let n = count_at(LABELS, numbers, place);
-    let shapes = shape_table(numbers);
-    let labels = label_table(numbers, place);
-    walk_items(numbers, &shapes, &labels, n, items_place(numbers))
+    let n = count_at(limits::LABELS, numbers, labels_place(numbers));
+    walk_items(&Tabled::new(numbers), n)
 }

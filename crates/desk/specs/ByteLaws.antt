@@ -1,10 +1,10 @@
 -- Bytes to words and back, both ways, and the turns of the two loops that copy between them.
 use Rattle.std.specs.Prelude.{ℕ, zero, suc, ◌+◌, ◌*◌, ◌/◌, ◌%◌, ◌^◌, ◌<◌, ◌≤◌, ◌≡◌, refl, List, [], ◌∷◌, ◌++◌, length, get_or, take, drop, set}
 use Rattle.std.proofs.Math.Nat.{div-div-eq-div-mul}
-use Rattle.std.proofs.Common.{div-add-mod', arith, add-one, sym, ap, ◌∙◌, append_assoc, append-nil, length-append, length-take, drop_of_length-le, drop-cons, take-suc-set, take_all, take_at, length-take-le}
+use Rattle.std.proofs.Common.{div-add-mod', arith, add-one, sym, ap, ◌∙◌, append_assoc, append-nil, length-append, length-take, length-drop, drop_of_length-le, drop-cons, take-suc-set, take_all, take_at, length-take-le}
 use Rattle.std.proofs.Math.Numerals.{towards_suc}
 use Rattle.std.proofs.Math.Arith.{digits_div, digits_mod}
-use Rattle.std.proofs.lemmas.List.Edits.{sets, sets-eq}
+use borrow.Rule.Slice.PartMut.{put_mid, post_of}
 use Rattle.desk.specs.Bytes.{word_from, words_of, byte_of, bytes_of}
 
 -- four bytes and what is behind them
@@ -51,26 +51,25 @@ fill_all b to i e h f =
 abbrev pub Spilled : List ℕ → List ℕ → ℕ → Type 0
 Spilled w to i = take (i * 4) to ++ bytes_of (drop i w) ≡ bytes_of w
 
--- the four bytes of x stored at k
-abbrev pub stored_at : List ℕ → ℕ → ℕ → List ℕ
-stored_at to k x = set (set (set (set to k (x % 256)) (k + 1) (byte_of x 256)) (k + 2) (byte_of x 65536)) (k + 3) (byte_of x 16777216)
-
-pub spill_more : (w to : List ℕ) (i : ℕ) → length to ≡ length w * 4 → i < length w → Spilled w to i → Spilled w (stored_at to (i * 4) (get_or w i 0)) (i + 1)
+-- the four bytes of a word, put in the place of those at k
+pub spill_more : (w to four : List ℕ) (i n : ℕ) → length to ≡ length w * 4 → i < length w → Spilled w to i → n ≡ 4 → four ≡ bytes_of (get_or w i 0 ∷ [])
+    → (length (put_mid (i * 4) n to four) ≡ length w * 4) × Spilled w (put_mid (i * 4) n to four) (i + 1)
 unfolding bytes_of
-spill_more w to i e h f =
+spill_more w to four i n e h f en ef =
     let k : ℕ = i * 4 in
-    let x : ℕ = get_or w i 0 in
-    let four_bytes : List ℕ = x % 256 ∷ byte_of x 256 ∷ byte_of x 65536 ∷ byte_of x 16777216 ∷ [] in
-    let stores : stored_at to k x ≡ sets to k four_bytes = simp towards_suc in
-    let there : length (take k to ++ four_bytes) ≡ (i + 1) * 4 = simp (length-append, length-take) (omega arith) in
-    let front : take ((i + 1) * 4) (stored_at to k x) ≡ take k to ++ four_bytes =
-    ap (take ((i + 1) * 4)) (stores ∙ sets-eq four_bytes to k (omega arith))
-    ∙ take_at (take k to ++ four_bytes) (drop (k + 4) to) ((i + 1) * 4) there in
-    let behind : drop i w ≡ x ∷ drop (i + 1) w = rw (add-one, drop-cons w i 0) in
-    ap (λ (l : List ℕ). l ++ bytes_of (drop (i + 1) w)) front
-    ∙ append_assoc (take k to) four_bytes (bytes_of (drop (i + 1) w))
-    ∙ ap (λ (l : List ℕ). take k to ++ bytes_of l) (sym behind)
-    ∙ f
+    let few : length four ≡ 4 = ap length ef in
+    let rest : List ℕ = post_of k n to in
+    let there : length (take k to ++ four) ≡ (i + 1) * 4 = simp (length-append, length-take) (omega arith) in
+    let front : take ((i + 1) * 4) (put_mid k n to four) ≡ take k to ++ four =
+    ap (take ((i + 1) * 4)) (sym (append_assoc (take k to) four rest)) ∙ take_at (take k to ++ four) rest ((i + 1) * 4) there in
+    let behind : drop i w ≡ get_or w i 0 ∷ drop (i + 1) w = rw (add-one, drop-cons w i 0) in (
+      simp (length-append, length-take, length-drop) (omega arith),
+      ap (λ (l : List ℕ). l ++ bytes_of (drop (i + 1) w)) front
+          ∙ append_assoc (take k to) four (bytes_of (drop (i + 1) w))
+          ∙ ap (λ (l : List ℕ). take k to ++ (l ++ bytes_of (drop (i + 1) w))) ef
+          ∙ ap (λ (l : List ℕ). take k to ++ bytes_of l) (sym behind)
+          ∙ f,
+    )
 
 pub spill_all : (w to : List ℕ) (i : ℕ) → length to ≡ length w * 4 → length w ≤ i → Spilled w to i → to ≡ bytes_of w
 unfolding bytes_of
@@ -137,16 +136,6 @@ words_length b = words_counted (length b) b (omega arith)
 
 -- the front of a room that bytes are copied into
 module _ (b room : List ℕ) where
-  module _ (h : length b ≤ length room * 4) where
-    pub room_front : length b / 4 ≤ length room
-    room_front = omega arith
-
-    pub room_front_length : length b / 4 ≡ length (take (length b / 4) room)
-    room_front_length = sym (length-take-le (length b / 4) room room_front)
-
-    pub room_front_whole : length b % 4 ≡ 0 → length b ≡ length (take (length b / 4) room) * 4
-    room_front_whole z = rw (← room_front_length) (omega arith)
-
   pub front_filled : (front : List ℕ) → front ≡ words_of b → front ++ drop (length b / 4) room ≡ words_of b ++ drop (length b / 4) room
   front_filled front e = ap (λ (l : List ℕ). l ++ drop (length b / 4) room) e
 
@@ -164,8 +153,6 @@ module _ (b room : List ℕ) where
     pub filled_whole : length b % 4 ≡ 0 → length b ≡ length (take (length b / 4) room') * 4
     filled_whole z = rw (← filled_length) (omega arith)
 
-pub ruleset fills = (refl, room_front, room_front_length, room_front_whole, front_filled)
-
 pub ruleset filleds = (refl, filled_front, filled_length, front_words)
 
 -- words that a buffer has room for, by its whole words, end within it
@@ -174,13 +161,5 @@ words_in_front words b h = omega arith
 
 -- the front of a buffer that words are copied into
 module _ (words buffer : List ℕ) (h : length words * 4 ≤ length buffer) where
-  pub front_length : length words * 4 ≡ length (take (length words * 4) buffer)
-  front_length = sym (length-take-le (length words * 4) buffer h)
-
-  pub front_is_whole : length (take (length words * 4) buffer) ≡ length words * 4
-  front_is_whole = sym front_length
-
   pub front_spilled : (front : List ℕ) → front ≡ bytes_of words → front ++ drop (length words * 4) buffer ≡ bytes_of words ++ drop (length words * 4) buffer
   front_spilled front e = ap (λ (l : List ℕ). l ++ drop (length words * 4) buffer) e
-
-pub ruleset spills = (refl, front_length, front_is_whole, front_spilled)

@@ -5,8 +5,7 @@ use Rattle.machine.specs.Numbers.{BAD_SIZE}
 use Rattle.listing.specs.declared.items.Item.{Item}
 use Rattle.listing.specs.Packet.{numbers_in}
 use Rattle.listing.specs.Parts.{items_in}
-use Rattle.checker.specs.declared.packets.Checked.{Checked}
-use Rattle.checker.specs.declared.packets.Checked.TheVariants.{Accepted, Refused, NoRoom}
+use Rattle.checker.specs.Checked.{Checked, Accepted, Refused, NoRoom}
 use Rattle.checker.specs.Check.{check_of}
 use Rattle.eraser.specs.Erase.{addresses_of, code_of}
 use Rattle.service.specs.Numbers.{DOES_NOT_FIT}

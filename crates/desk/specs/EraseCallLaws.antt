@@ -5,6 +5,8 @@ use Rattle.std.proofs.Math.Path.{ap}
 use Rattle.std.proofs.Common.{◌∙◌, Fits}
 use mathlib.Core.List.{List, ◌++◌}
 use Rattle.std.specs.Int.{w32}
+use Rattle.std.specs.Prelude.{replicate}
+use Rattle.std.proofs.lemmas.List.{length-replicate}
 use Rattle.choice.specs.Pick.{is_less, not_less, is_equal, not_equal}
 use Rattle.machine.specs.Numbers.{CODE_WORDS, BAD_SIZE}
 use Rattle.listing.specs.Limits.{ITEMS}
@@ -66,4 +68,9 @@ module _ (ns code code' : List ℕ) (n : ℕ) (whole : length code ≡ CODE_WORD
   unfolding code_for
   code_erased c out p = p ∙ ap (λ (l : List ℕ). code_out l out) (erased_front ns code code' n room_fits e)
 
-pub ruleset codes = (refl, words_in_front, code_small, code_fits, code_not, code_over, code_ragged, code_count, code_is, code_within, code_erased)
+-- a room for the longest code
+pub code_room : length (replicate {A = ℕ} 1024 0) ≡ CODE_WORDS
+unfolding CODE_WORDS
+code_room = length-replicate {A = ℕ} 1024 0
+
+pub ruleset codes = (refl, code_room, words_in_front, code_small, code_fits, code_not, code_over, code_ragged, code_count, code_is, code_within, code_erased)

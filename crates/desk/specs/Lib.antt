@@ -13,9 +13,12 @@ pub mod EraseCallLaws  -- for the proofs of the code of vans_erase
 pub mod LentCall  -- what a call on a packet leaves in three buffers
 pub mod VansDesk  -- vans_desk: the desk call on byte buffers
 pub mod Work  -- what is done over the words of lent buffers, and what room for them must hold
+pub mod Loans  -- what is left in the buffers of a loan
+pub mod Works  -- the work that a value of the code's type says
 pub mod WorkLaws  -- for the proofs of the code of these rooms
 pub mod VansDeskLaws  -- for the proofs of its code behind the checker
 pub mod Tasks  -- the calls on packets by their task
+pub mod Calls  -- the call that a value of the code's type says
 pub mod TaskLaws  -- for the proofs of the code of the tasks
 pub mod Theorems  -- vans_desk is the desk call on its buffers' words
 pub mod Unique  -- any two results that meet the promise are equal

@@ -1,8 +1,8 @@
 -- vans_read: what it answers, and what the buffer for the numbers holds afterwards, for all bytes.
 use Rattle.std.specs.Prelude.{ℕ, ◌*◌, ◌/◌, List, ◌++◌, length, drop, ltb}
 use Rattle.choice.specs.Pick.{pick}
-use Rattle.listing.specs.declared.reading.Taken.{Taken}
-use Rattle.listing.specs.declared.reading.Taken.TheVariants.{Listing, Fault, NoRoom}
+use Rattle.listing.specs.Taken.{Taken}
+use Rattle.listing.specs.Taken.{Listing, Fault, NoRoom}
 use Rattle.listing.specs.Packet.{numbers_in, taken_of}
 use Rattle.service.specs.Numbers.{DOES_NOT_FIT}
 use Rattle.desk.specs.Bytes.{bytes_of}

@@ -1,12 +1,10 @@
 -- Laws of vans_read for the proofs of its code: one for each way through it. `hands` holds those for the numbers, `reads` those by what the packet is.
-use Rattle.std.specs.Prelude.{ℕ, ◌*◌, ◌/◌, ◌^◌, ◌<◌, ◌≤◌, ◌≡◌, refl, length, take, drop}
-use Rattle.std.proofs.Common.{arith, sym, ◌∙◌, Fits, length-take-le}
+use Rattle.std.specs.Prelude.{ℕ, ◌*◌, ◌/◌, ◌^◌, ◌<◌, ◌≤◌, ◌≡◌, refl, Err, length, take, drop}
+use Rattle.std.proofs.Common.{arith, sym, ◌∙◌, length-take-le}
 use Rattle.std.proofs.Math.Path.{ap}
 use mathlib.Core.List.{List, ◌++◌}
-use Rattle.std.specs.Int.{w32}
 use Rattle.choice.specs.Pick.{is_less, not_less}
-use Rattle.listing.specs.declared.reading.Taken.{Taken}
-use Rattle.listing.specs.declared.reading.Taken.TheVariants.{Listing, Fault, NoRoom}
+use Rattle.listing.specs.Taken.{Taken, Listing, Fault, NoRoom, taken_in}
 use Rattle.listing.specs.Limits.{BYTES, TOO_LONG}
 use Rattle.listing.specs.Packet.{reading_of, packet_of, numbers_in, taken_of}
 use Rattle.listing.specs.TakenLaws.{read_taken, read_count, read_place, read_numbers}
@@ -15,6 +13,11 @@ use Rattle.desk.specs.Bytes.{bytes_of}
 use Rattle.desk.specs.ByteLaws.{words_in_front}
 use Rattle.desk.specs.Answer.{answer_of}
 use Rattle.desk.specs.PacketCall.{PacketCall, packet_call}
+use Rattle.refusals.specs.Refusals.{number_of}
+use Rattle.listing.specs.declared.reading.ReadError.{ReadError}
+use Rattle.listing.specs.declared.reading.ReadError.TheVariants as error
+use Rattle.checker.specs.Checked.{checked_in}
+use Rattle.desk.specs.CheckCall.{NearPlace, answer_by}
 use Rattle.desk.specs.ReadCall.{handed_of, by_taken, vans_read_of}
 
 -- numbers handed over
@@ -40,11 +43,12 @@ module _ (packet room room' : List ℕ) (t : Taken) (e : reading_of t room' ≡ 
   pub count_in_packet : (n : ℕ) → t ≡ Listing n → length room' ≡ length room → length (take n room') ≤ BYTES
   count_in_packet n p s = omega (arith, count_is n p s, read_count packet room room' t e h k n p)
 
-  pub place_small : (number place : ℕ) → t ≡ Fault number place → place < 2 ^ 24
+  place_small : (number place : ℕ) → t ≡ Fault number place → place < 2 ^ 24
   place_small number place p = omega (arith, read_place packet room room' t e h k number place p)
 
-  pub place_fits : (number place : ℕ) → t ≡ Fault number place → Fits w32 place
-  place_fits number place p = record { fits = omega (arith, place_small number place p) }
+  pub error_near : (x : ReadError) → t ≡ taken_in (Err x) → NearPlace x
+  error_near (error.Refused f) p = place_small (number_of f.refusal) f.place p
+  error_near error.NoRoom p = tt
 
 -- by what the packet is
 module _ (packet numbers : List ℕ) (c : PacketCall) where
@@ -61,19 +65,24 @@ module _ (packet numbers : List ℕ) (c : PacketCall) where
         ∙ ap (λ (m : ℕ). handed_of (take n room') m numbers) (sym (count_is packet room room' t e h k n p s))
         ∙ ap (λ (ns : List ℕ). handed_of ns n numbers) (read_numbers packet room room' t e h k n p))
 
-    pub reads_fault : (a number place : ℕ) → t ≡ Fault number place → a ≡ answer_of number place 0 → c ≡ packet_call a numbers → c ≡ vans_read_of packet numbers
+    reads_fault : (a number place : ℕ) → t ≡ Fault number place → a ≡ answer_of number place 0 → c ≡ packet_call a numbers → c ≡ vans_read_of packet numbers
     unfolding by_taken
     reads_fault a number place p q s =
         as_taken (Fault number place) (sym (read_taken packet room room' t e h k) ∙ p) (s ∙ ap (λ (x : ℕ). packet_call x numbers) q)
 
-    pub reads_no_room : (a : ℕ) → t ≡ NoRoom → a ≡ answer_of DOES_NOT_FIT 0 0 → c ≡ packet_call a numbers → c ≡ vans_read_of packet numbers
+    reads_no_room : (a : ℕ) → t ≡ NoRoom → a ≡ answer_of DOES_NOT_FIT 0 0 → c ≡ packet_call a numbers → c ≡ vans_read_of packet numbers
     unfolding by_taken
     reads_no_room a p q s =
         as_taken NoRoom (sym (read_taken packet room room' t e h k) ∙ p) (s ∙ ap (λ (x : ℕ). packet_call x numbers) q)
+
+    pub reads_unread : (x : ReadError) (a : ℕ) → t ≡ taken_in (Err x) → a ≡ answer_by (checked_in (Err x)) → c ≡ packet_call a numbers → c ≡ vans_read_of packet numbers
+    unfolding answer_by
+    reads_unread (error.Refused f) a p q s = reads_fault a (number_of f.refusal) f.place p q s
+    reads_unread error.NoRoom a p q s = reads_no_room a p q s
 
   pub reads_too_long : (a : ℕ) → BYTES < length packet → a ≡ answer_of TOO_LONG 0 0 → c ≡ packet_call a numbers → c ≡ vans_read_of packet numbers
   unfolding taken_of by_taken
   reads_too_long a h q s =
       as_taken (Fault TOO_LONG 0) (sym (is_less BYTES (length packet) _ _ _ h refl)) (s ∙ ap (λ (x : ℕ). packet_call x numbers) q)
 
-pub ruleset reads = (refl, count_in_room, count_is, count_in_packet, place_small, place_fits, reads_listing, reads_fault, reads_no_room)
+pub ruleset reads = (refl, count_in_room, count_is, count_in_packet, error_near, reads_listing, reads_unread)

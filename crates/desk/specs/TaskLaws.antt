@@ -1,16 +1,17 @@
 -- Laws of the tasks for the proofs of their code, one for each way through it: by what the checker says, by the task, and of each call as its task.
-use Rattle.std.specs.Prelude.{ℕ, ◌^◌, ◌<◌, ◌≤◌, ◌≡◌, length, take, eqb}
-use Rattle.std.proofs.Common.{arith, ◌∙◌, Fits, length-take-le}
+use Rattle.std.specs.Prelude.{ℕ, ◌^◌, ◌<◌, ◌≤◌, ◌≡◌, Err, length, take, eqb}
+use Rattle.std.proofs.Common.{arith, ◌∙◌, length-take-le}
 use Rattle.std.proofs.Math.Path.{refl, sym, ap, subst}
 use mathlib.Core.List.{List}
-use Rattle.std.specs.Int.{w32}
 use Rattle.choice.specs.Pick.{each_way, is_equal, not_equal}
 use Rattle.listing.specs.Limits.{BYTES, TOO_LONG}
 use Rattle.listing.specs.Packet.{numbers_in, taken_of}
 use Rattle.listing.specs.Parts.{items_in, listing_in}
 use Rattle.listing.specs.Theorems.{taken_is_listed}
-use Rattle.checker.specs.declared.packets.Checked.{Checked}
-use Rattle.checker.specs.declared.packets.Checked.TheVariants.{Accepted, Refused, NoRoom}
+use Rattle.refusals.specs.Refusals.{number_of}
+use Rattle.listing.specs.declared.reading.ReadError.{ReadError}
+use Rattle.listing.specs.declared.reading.ReadError.TheVariants as error
+use Rattle.checker.specs.Checked.{Checked, Accepted, Refused, NoRoom, checked_in}
 use Rattle.checker.specs.Check.{verdict_in, checking_of, check_in, check_of}
 use Rattle.checker.specs.CheckLaws.{accepted_taken, check_answer, check_count, check_numbers, check_place}
 use Rattle.start.specs.Start.{first_listed}
@@ -23,10 +24,45 @@ use Rattle.desk.specs.PacketCall.{PacketCall, packet_call}
 use Rattle.desk.specs.LentCall.{LentCall, lent_call, beside}
 use Rattle.desk.specs.ReadCall.{vans_read_of}
 use Rattle.desk.specs.ReadCallLaws.{reads_too_long}
-use Rattle.desk.specs.CheckCall.{answer_by, vans_check_of}
+use Rattle.desk.specs.CheckCall.{NearPlace, answer_by, vans_check_of}
 use Rattle.desk.specs.EraseCall.{erased_out, erase_by, vans_erase_of}
 use Rattle.desk.specs.VansDesk.{refused_bytes, serve_bytes, bytes_fault, vans_desk_by, vans_desk_of}
 use Rattle.desk.specs.Tasks.{checked_task, accepted_task, task_of}
+use Rattle.desk.specs.declared.tasks.Task.{Task}
+use Rattle.desk.specs.declared.tasks.Task.TheVariants.{Read, Check, Erase, Desk}
+use Rattle.desk.specs.Calls.{task_number}
+
+-- the number of a task
+module _ (task : Task) where
+  pub is_read : task ≡ Read → task_number task ≡ 0
+  is_read e = ap task_number e
+
+  pub is_check : task ≡ Check → task_number task ≡ 1
+  is_check e = ap task_number e
+
+  pub is_erase : task ≡ Erase → task_number task ≡ 2
+  is_erase e = ap task_number e
+
+  pub erase_not_check : task ≡ Erase → task_number task ≡ 1 → ⊥
+  erase_not_check e q = absurd (omega (arith, q, is_erase e))
+
+pub not_read : (task : Task) → (task ≡ Read → ⊥) → task_number task ≡ 0 → ⊥
+not_read Read n e = n refl
+not_read Check n e = absurd (omega arith)
+not_read Erase n e = absurd (omega arith)
+not_read Desk n e = absurd (omega arith)
+
+pub not_check : (task : Task) → (task ≡ Check → ⊥) → task_number task ≡ 1 → ⊥
+not_check Read n e = absurd (omega arith)
+not_check Check n e = n refl
+not_check Erase n e = absurd (omega arith)
+not_check Desk n e = absurd (omega arith)
+
+pub not_erase : (task : Task) → (task ≡ Erase → ⊥) → task_number task ≡ 2 → ⊥
+not_erase Read n e = absurd (omega arith)
+not_erase Check n e = absurd (omega arith)
+not_erase Erase n e = n refl
+not_erase Desk n e = absurd (omega arith)
 
 module _ (task : ℕ) (out heap blocks regs : List ℕ) (budget : ℕ) where
   -- with a refusal nothing changes, whatever the task
@@ -60,18 +96,19 @@ module _ (task : ℕ) (out heap blocks regs : List ℕ) (budget : ℕ) where
   unfolding checked_task answer_by erase_by vans_desk_by
   count_is n m ns = refl
 
-pub ruleset accepteds = (refl, accepted_checks, accepted_erases, accepted_serves)
+pub ruleset accepteds = (refl, is_check, is_erase, erase_not_check, not_check, not_erase, accepted_checks, accepted_erases, accepted_serves)
 
 -- by what the checker says of a packet in a room that is large enough
 module _ (packet room room' : List ℕ) (c : Checked) (e : checking_of c room' ≡ check_in packet room) (h : length packet ≤ BYTES) (k : length packet ≤ length room) where
-  is_check : (x : Checked) → c ≡ x → x ≡ check_of packet
-  is_check x p = sym p ∙ check_answer packet room room' c e h k
+  checks_as : (x : Checked) → c ≡ x → x ≡ check_of packet
+  checks_as x p = sym p ∙ check_answer packet room room' c e h k
 
-  pub refused_small : (number place : ℕ) → c ≡ Refused number place → place < 2 ^ 24
+  refused_small : (number place : ℕ) → c ≡ Refused number place → place < 2 ^ 24
   refused_small number place p = omega (arith, check_place packet room room' c e h k number place p)
 
-  pub refused_fits : (number place : ℕ) → c ≡ Refused number place → Fits w32 place
-  refused_fits number place p = record { fits = omega (arith, refused_small number place p) }
+  pub error_near : (x : ReadError) → c ≡ checked_in (Err x) → NearPlace x
+  error_near (error.Refused f) p = refused_small (number_of f.refusal) f.place p
+  error_near error.NoRoom p = tt
 
   pub front_in_room : (n : ℕ) → c ≡ Accepted n → length room' ≡ length room → n ≤ length room'
   front_in_room n p s = omega (arith, check_count packet room room' c e h k n p)
@@ -83,7 +120,7 @@ module _ (packet room room' : List ℕ) (c : Checked) (e : checking_of c room' �
   pub accepted_indexed : (n : ℕ) → c ≡ Accepted n → Indexed (first_listed (take n room'))
   unfolding check_of
   accepted_indexed n p =
-      let taken = (accepted_taken (verdict_in packet) n (taken_of packet) (is_check (Accepted n) p)).0 in
+      let taken = (accepted_taken (verdict_in packet) n (taken_of packet) (checks_as (Accepted n) p)).0 in
       subst (λ (ns : List ℕ). Indexed (first_listed ns)) (sym (check_numbers packet room room' c e h k n p)) (listing_indexed (listing_in (numbers_in packet)) (taken_is_listed packet n taken).0)
 
   module _ (task : ℕ) (out heap blocks regs : List ℕ) (budget : ℕ) where
@@ -95,18 +132,24 @@ module _ (packet room room' : List ℕ) (c : Checked) (e : checking_of c room' �
         q
         ∙ count_is task out heap blocks regs budget (length (take n room')) n (take n room')
         ∙ ap (λ (ns : List ℕ). checked_task task (Accepted n) ns out heap blocks regs budget) (check_numbers packet room room' c e h k n p)
-        ∙ ap whole (is_check (Accepted n) p)
+        ∙ ap whole (checks_as (Accepted n) p)
 
-    pub checked_refused : (number place a : ℕ) → c ≡ Refused number place → a ≡ answer_of number place 0
+    checked_refused : (number place a : ℕ) → c ≡ Refused number place → a ≡ answer_of number place 0
         → lent_call a out heap regs ≡ checked_task task (check_of packet) (numbers_in packet) out heap blocks regs budget
     checked_refused number place a p q =
-        ap (λ (x : ℕ). lent_call x out heap regs) q ∙ refused_is task out heap blocks regs budget number place (numbers_in packet) ∙ ap whole (is_check (Refused number place) p)
+        ap (λ (x : ℕ). lent_call x out heap regs) q ∙ refused_is task out heap blocks regs budget number place (numbers_in packet) ∙ ap whole (checks_as (Refused number place) p)
 
-    pub checked_no_room : (a : ℕ) → c ≡ NoRoom → a ≡ answer_of DOES_NOT_FIT 0 0 → lent_call a out heap regs ≡ checked_task task (check_of packet) (numbers_in packet) out heap blocks regs budget
+    checked_no_room : (a : ℕ) → c ≡ NoRoom → a ≡ answer_of DOES_NOT_FIT 0 0 → lent_call a out heap regs ≡ checked_task task (check_of packet) (numbers_in packet) out heap blocks regs budget
     checked_no_room a p q =
-        ap (λ (x : ℕ). lent_call x out heap regs) q ∙ no_room_is task out heap blocks regs budget (numbers_in packet) ∙ ap whole (is_check NoRoom p)
+        ap (λ (x : ℕ). lent_call x out heap regs) q ∙ no_room_is task out heap blocks regs budget (numbers_in packet) ∙ ap whole (checks_as NoRoom p)
 
-pub ruleset checkings = (refl, refused_small, refused_fits, front_in_room, front_is, accepted_indexed, checked_accepted, checked_refused, checked_no_room)
+    pub checked_unread : (x : ReadError) (a : ℕ) → c ≡ checked_in (Err x) → a ≡ answer_by (checked_in (Err x))
+        → lent_call a out heap regs ≡ checked_task task (check_of packet) (numbers_in packet) out heap blocks regs budget
+    unfolding answer_by
+    checked_unread (error.Refused f) a p q = checked_refused (number_of f.refusal) f.place a p q
+    checked_unread error.NoRoom a p q = checked_no_room a p q
+
+pub ruleset checkings = (refl, error_near, front_in_room, front_is, accepted_indexed, checked_accepted, checked_unread)
 
 -- the tasks
 module _ (task : ℕ) (packet out heap blocks regs : List ℕ) (budget : ℕ) where
@@ -129,7 +172,7 @@ module _ (task : ℕ) (packet out heap blocks regs : List ℕ) (budget : ℕ) wh
       ∙ refused_is task out heap blocks regs budget TOO_LONG 0 (numbers_in packet)
       ∙ ap (λ (x : Checked). checked_task task x (numbers_in packet) out heap blocks regs budget) (too_long packet h))
 
-pub ruleset tasks = (refl, task_reads, task_checked, task_too_long)
+pub ruleset tasks = (refl, is_read, not_read, task_reads, task_checked, task_too_long)
 
 -- each call is its task
 module _ (packet out heap blocks regs : List ℕ) (budget task a : ℕ) (out' heap' regs' : List ℕ) (e : lent_call a out' heap' regs' ≡ task_of task packet out heap blocks regs budget) where

@@ -2,8 +2,7 @@
 use Rattle.std.specs.Prelude.{ℕ, List, length, eqb}
 use Rattle.choice.specs.Pick.{pick}
 use Rattle.listing.specs.Packet.{numbers_in}
-use Rattle.checker.specs.declared.packets.Checked.{Checked}
-use Rattle.checker.specs.declared.packets.Checked.TheVariants.{Accepted}
+use Rattle.checker.specs.Checked.{Checked, Accepted}
 use Rattle.checker.specs.Check.{check_of}
 use Rattle.desk.specs.PacketCall.{packet_call}
 use Rattle.desk.specs.LentCall.{LentCall, beside}

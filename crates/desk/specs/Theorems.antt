@@ -8,11 +8,10 @@ use Rattle.choice.specs.Pick.{pick}
 use Rattle.machine.specs.Run.{Outcome}
 use Rattle.listing.specs.Packet.{numbers_in}
 use Rattle.listing.specs.Parts.{items_in}
-use Rattle.checker.specs.declared.packets.Checked.{Checked}
-use Rattle.checker.specs.declared.packets.Checked.TheVariants.{Accepted, Refused, NoRoom}
+use Rattle.checker.specs.Checked.{Checked, Accepted, Refused, NoRoom}
 use Rattle.checker.specs.Check.{check_of}
 use Rattle.eraser.specs.Erase.{needed_of}
-use Rattle.start.specs.declared.faults.Fault.{Fault}
+use Rattle.refusals.specs.Refusals.{Verdict}
 use Rattle.start.specs.Start.{fault_of, or_else, start_of}
 use Rattle.service.specs.Numbers.{DOES_NOT_FIT}
 use Rattle.service.specs.Desk.{right_sizes, sizes_of, later_fault, code_for, ran_of, DeskCall, refused_call, ran_call, serve_by, desk_by, desk_of}
@@ -57,7 +56,7 @@ module _ (code heap blocks regs : List ℕ) (budget : ℕ) (whole : whole_of (le
   back b f h = bytes_back (length b / 4) b (omega arith) f
 
   -- a refusal leaves the buffers as they are, both ways
-  refused_same : (f : Fault) → refused_bytes f code heap regs ≡ in_bytes (refused_call f (words_of regs) (words_of code) (words_of heap))
+  refused_same : (f : Verdict) → refused_bytes f code heap regs ≡ in_bytes (refused_call f (words_of regs) (words_of code) (words_of heap))
   unfolding refused_bytes refused_call
   refused_same f =
       λ i.
@@ -71,7 +70,7 @@ module _ (code heap blocks regs : List ℕ) (budget : ℕ) (whole : whole_of (le
       ap (λ (l : List ℕ). lent_call (answer_of o.machine.state.status 0 o.count) l (bytes_of o.machine.heap) (bytes_of o.machine.state.regs))
       (ap (λ (l : List ℕ). bytes_of erased ++ l) (sym (bytes_drop (length erased) code code_bytes (omega (arith, means.0)))) ∙ sym (bytes_append erased (drop (length erased) (words_of code))))
 
-  served_same : (t : Bool) (f : Fault) (o : Outcome) (erased : List ℕ)
+  served_same : (t : Bool) (f : Verdict) (o : Outcome) (erased : List ℕ)
       → pick t (ran_bytes o erased code) (refused_bytes f code heap regs) ≡ in_bytes (pick t (ran_call o erased (words_of code)) (refused_call f (words_of regs) (words_of code) (words_of heap)))
   unfolding pick
   served_same true f o erased = ran_same o erased
@@ -88,7 +87,7 @@ module _ (code heap blocks regs : List ℕ) (budget : ℕ) (whole : whole_of (le
   by_checked : (c : Checked) (ns : List ℕ) → vans_desk_by c ns code heap blocks regs budget ≡ in_bytes (desk_by c ns (words_of code) (words_of heap) (words_of blocks) (words_of regs) budget)
   unfolding vans_desk_by desk_by serve_bytes serve_by
   by_checked (Accepted n) ns =
-      ap (λ (f : Fault). serve_bytes f ns (words_of heap) (words_of regs) code heap regs budget) (fault_same ns)
+      ap (λ (f : Verdict). serve_bytes f ns (words_of heap) (words_of regs) code heap regs budget) (fault_same ns)
       ∙ served_same _ _ (ran_of ns (words_of heap) (words_of regs) budget) (code_for ns)
   by_checked (Refused k place) ns = refused_same (fault_of k place)
   by_checked NoRoom ns = refused_same (fault_of DOES_NOT_FIT 0)

@@ -4,11 +4,10 @@ use Rattle.choice.specs.Pick.{pick}
 use Rattle.machine.specs.Run.{Outcome}
 use Rattle.listing.specs.Packet.{numbers_in}
 use Rattle.listing.specs.Parts.{items_in}
-use Rattle.checker.specs.declared.packets.Checked.{Checked}
-use Rattle.checker.specs.declared.packets.Checked.TheVariants.{Accepted, Refused, NoRoom}
+use Rattle.checker.specs.Checked.{Checked, Accepted, Refused, NoRoom}
 use Rattle.checker.specs.Check.{check_of}
 use Rattle.eraser.specs.Erase.{needed_of}
-use Rattle.start.specs.declared.faults.Fault.{Fault}
+use Rattle.refusals.specs.Refusals.{Verdict}
 use Rattle.start.specs.Start.{fault_of, or_else, start_of}
 use Rattle.service.specs.Numbers.{DOES_NOT_FIT}
 use Rattle.service.specs.Desk.{right_sizes, sizes_of, code_for, ran_of}
@@ -22,7 +21,7 @@ unfoldable pub whole_of : ℕ → ℕ → ℕ → ℕ → Bool
 whole_of code heap blocks regs = pick (eqb (code % 4 + heap % 4 + blocks % 4) 0) (eqb regs REGS_BYTES) false
 
 -- with a refusal nothing changes
-unfoldable pub refused_bytes : Fault → List ℕ → List ℕ → List ℕ → LentCall
+unfoldable pub refused_bytes : Verdict → List ℕ → List ℕ → List ℕ → LentCall
 refused_bytes f code heap regs = lent_call (answer_of f.number f.place 0) code heap regs
 
 -- a run, in bytes, the code in front of its buffer
@@ -32,15 +31,15 @@ ran_bytes o erased code =
     (bytes_of o.machine.state.regs)
 
 -- a listing's numbers over the words h of a heap and r of registers, by the first refusal behind the items'
-unfoldable pub serve_bytes : Fault → List ℕ → List ℕ → List ℕ → List ℕ → List ℕ → List ℕ → ℕ → LentCall
+unfoldable pub serve_bytes : Verdict → List ℕ → List ℕ → List ℕ → List ℕ → List ℕ → List ℕ → ℕ → LentCall
 serve_bytes f ns h r code heap regs budget = pick (eqb f.number 0) (ran_bytes (ran_of ns h r budget) (code_for ns) code) (refused_bytes f code heap regs)
 
 -- 35, 30 and 34, by the buffers' bytes
-unfoldable pub bytes_size : List ℕ → ℕ → ℕ → ℕ → ℕ → ℕ → Fault
+unfoldable pub bytes_size : List ℕ → ℕ → ℕ → ℕ → ℕ → ℕ → Verdict
 bytes_size ns code heap blocks regs budget = sizes_of (needed_of (items_in ns)) (code / 4) (right_sizes (heap / 4) (blocks / 4) (whole_of code heap blocks regs)) budget
 
 -- the first refusal behind the items'
-unfoldable pub bytes_fault : List ℕ → List ℕ → List ℕ → List ℕ → List ℕ → ℕ → Fault
+unfoldable pub bytes_fault : List ℕ → List ℕ → List ℕ → List ℕ → List ℕ → ℕ → Verdict
 bytes_fault ns code heap blocks regs budget =
     or_else (bytes_size ns (length code) (length heap) (length blocks) (length regs) budget) (start_of ns (words_of heap) (words_of blocks) (words_of regs))
 

@@ -1,12 +1,16 @@
 -- Laws of the work over lent buffers for the proofs of its code: words that buffers were copied to fit, and each work is a case.
 use Rattle.std.specs.Prelude.{ℕ, ◌/◌, ◌≡◌, refl, List, ◌++◌, length, take, drop}
 use Rattle.std.proofs.Common.{arith, ◌∙◌}
-use Rattle.std.proofs.Math.Path.{sym, ap}
+use Rattle.std.proofs.Math.Path.{sym, ap, subst}
 use Rattle.choice.specs.Pick.{is_equal, not_equal}
+use Rattle.std.specs.Borrow.{Bor}
 use Rattle.desk.specs.Bytes.{words_of}
 use Rattle.desk.specs.ByteLaws.{filled_length, filled_whole}
 use Rattle.desk.specs.RunCall.{run_call, run_bytes_of}
 use Rattle.desk.specs.LentCall.{LentCall, lent_call}
+use Rattle.desk.specs.declared.buffers.Work.{Work}
+use Rattle.desk.specs.declared.buffers.Work.TheVariants.{Run, Start}
+use Rattle.desk.specs.Works.{work_number, numbers_for}
 use Rattle.desk.specs.Work.{Whole, Lent, Fitting, Ready, Meant, start_bytes, beside_code, work_of}
 
 -- a heap in a room that is large enough
@@ -24,26 +28,28 @@ both_fit t h t' h' table heap regs p et eh =
 
 -- what a work asks of numbers and code buffer
 module _ (work : ℕ) (ns : List ℕ) (code : ℕ) where
-  pub run_meant : work ≡ 0 → Meant work ns code
-  run_meant z = record { ready = λ n. absurd (n z) }
-
   pub start_meant : Ready ns code → Meant work ns code
   start_meant r = record { ready = λ n. r }
 
-  pub meant_ready : Meant work ns code → (work ≡ 0 → ⊥) → Ready ns code
-  meant_ready m n = m.ready n
-
 -- each work is a case
+module _ (work : Work) (code table heap regs : List ℕ) (budget : ℕ) (l : LentCall) where
+  pub work_runs : work ≡ Run → l ≡ beside_code code (run_bytes_of table heap regs budget) → l ≡ work_of (work_number work) (numbers_for work) code table heap regs budget
+  unfolding work_of
+  work_runs z p = is_equal (work_number work) 0 _ _ _ (ap work_number z) p
+
+  pub work_starts : (ns : Bor (List ℕ)) → work ≡ Start ns → l ≡ start_bytes ns.now code table heap regs budget → l ≡ work_of (work_number work) (numbers_for work) code table heap regs budget
+  unfolding work_of
+  work_starts ns z p =
+      not_equal (work_number work) 0 _ _ _ (λ q. absurd (omega (arith, q, ap work_number z)))
+      (p ∙ ap (λ (l : List ℕ). start_bytes l code table heap regs budget) (sym (ap numbers_for z)))
+
+-- a listing that is started is ready
+pub work_ready : (work : Work) (code : ℕ) (ns : Bor (List ℕ)) → work ≡ Start ns → Meant (work_number work) (numbers_for work) code → Ready ns.now code
+work_ready work code ns z m =
+    subst (λ (l : List ℕ). Ready l code) (ap numbers_for z) (m.ready (λ q. absurd (omega (arith, q, ap work_number z))))
+
+-- and of a number of a work
 module _ (work : ℕ) (ns code table heap regs : List ℕ) (budget : ℕ) where
-  pub work_runs : (a : ℕ) (heap' regs' : List ℕ) → work ≡ 0 → run_call a heap' regs' ≡ run_bytes_of table heap regs budget → lent_call a code heap' regs' ≡ work_of work ns code table heap regs budget
-  unfolding work_of
-  work_runs a heap' regs' z p = is_equal work 0 _ _ _ z (ap (beside_code code) p)
-
-  pub work_starts : (l : LentCall) → (work ≡ 0 → ⊥) → l ≡ start_bytes ns code table heap regs budget → l ≡ work_of work ns code table heap regs budget
-  unfolding work_of
-  work_starts l z p = not_equal work 0 _ _ _ z p
-
-  -- and each case its work
   pub ran_work : (a : ℕ) (code' heap' regs' : List ℕ) → work ≡ 0 → lent_call a code' heap' regs' ≡ work_of work ns code table heap regs budget → run_call a heap' regs' ≡ run_bytes_of table heap regs budget
   unfolding work_of
   ran_work a code' heap' regs' z p = ap (λ (l : LentCall). run_call l.answer l.heap l.regs) (p ∙ sym (is_equal work 0 _ _ _ z refl))
@@ -52,4 +58,4 @@ module _ (work : ℕ) (ns code table heap regs : List ℕ) (budget : ℕ) where
   unfolding work_of
   started_work l z p = p ∙ sym (not_equal work 0 _ _ _ (λ q. omega arith) refl)
 
-pub ruleset works = (refl, meant_ready, work_runs, work_starts)
+pub ruleset works = (refl, work_ready, work_runs, work_starts)

@@ -1,146 +1,101 @@
 // vans_desk behind the checker: a listing's numbers served over byte buffers.
 ghost use Rattle.std.specs.Prelude.{◌≡◌, ◌*◌, ◌/◌, ◌≤◌, length};
+ghost use Rattle.refusals.specs.Refusals.{verdict_in};
 ghost use Rattle.listing.specs.Parts.{items_in};
 ghost use Rattle.eraser.specs.Erase.{needed_of};
 ghost use Rattle.start.specs.Start.{first_listed, start_of};
 ghost use Rattle.start.specs.ListedLaws.{Indexed};
 ghost use Rattle.service.specs.Desk.{code_for, ran_of};
 ghost use Rattle.desk.specs.Bytes.{words_of};
-ghost use Rattle.desk.specs.LentCall.{lent_call};
 ghost use Rattle.desk.specs.VansDesk.{whole_of, ran_bytes, serve_bytes, bytes_size, bytes_fault};
-ghost use Rattle.desk.specs.Work.{Whole, Lent, Fitting, Ready, start_bytes};
+ghost use Rattle.desk.specs.Loans.{left_in, SameBuffers, WholeLoan};
+ghost use Rattle.desk.specs.Work.{Lent, Fitting, Ready, start_bytes};
 
-use crate::answers::answer;
-use crate::buffers::{START, code_room, over_room};
+use crate::answers::refused;
+use crate::buffers::{Work, over_room};
+use crate::loan::Loan;
 use crate::run_call::{REGS_BYTES, registers, run_over};
-use crate::words::{fill_front, spill_front};
-use start::Fault;
+use crate::words::{fill, spill};
+use machine::numbers::CODE_WORDS;
+use refusals::Fault;
 
 // Whether buffers of so many bytes are whole words, and sixteen registers.
+#[tactic(auto, using(choice::specs::Pick::cases), unfolding(crate::specs::VansDesk::whole_of))]
 fn whole(code: usize, heap: usize, blocks: usize, regs: usize) -> bool
     ensures { result ≡ whole_of code heap blocks regs }
 {
-    if code % 4 + heap % 4 + blocks % 4 == 0 {
-        regs == REGS_BYTES
-    } else {
-        false
-    }
+    code % 4 + heap % 4 + blocks % 4 == 0 && regs == REGS_BYTES
 }
 
 // Erases a listing's numbers in front of a buffer that the code fits, and runs it over words.
-fn run_erased(
-    numbers: &[u32],
-    h: &mut [u32],
-    r: [u32; 16],
-    budget: u32,
-    code: &mut [u8],
-    heap: &mut [u8],
-    regs: &mut [u8],
-) -> u64
-    requires numbers_in_bounds { needed_of (items_in numbers.now) ≤ length code.old / 4 }
-    requires lent { Lent (length h.old) (length heap.old) (length regs.old) }
-    ensures { lent_call result code.new heap.new regs.new ≡ ran_bytes (ran_of numbers.now h.old r budget) (code_for numbers.now) code.old }
+fn run_erased(numbers: &[u32], h: &mut [u32], r: [u32; 16], loan: &mut Loan) -> u64
+    requires numbers_in_bounds { needed_of (items_in numbers.now) ≤ length loan.old.out.now / 4 }
+    requires lent { Lent (length h.old) (length loan.old.heap.now) (length loan.old.regs.now) }
+    ensures ran { left_in result loan.new ≡ ran_bytes (ran_of numbers.now h.old r loan.old.budget) (code_for numbers.now) loan.old.out.now }
+    ensures same { SameBuffers loan.old loan.new }
 {
-    let mut c = code_room();
+    let mut c = [0; CODE_WORDS];
     let n = eraser::erase(numbers, &mut c) as usize;
-    spill_front(&c[..n], code);
-    run_over(&c[..n], h, r, budget, heap, regs)
+    spill(&c[..n], loan.out);
+    run_over(&c[..n], h, r, loan)
 }
 
 // Checks the start over words, and runs.
-fn start_over(
-    numbers: &[u32],
-    h: &mut [u32],
-    b: &[u32],
-    r: [u32; 16],
-    budget: u32,
-    code: &mut [u8],
-    heap: &mut [u8],
-    regs: &mut [u8],
-) -> u64
-    requires fitting { Fitting (length b.now) (length h.old) (length heap.old) (length regs.old) }
-    requires ready { Ready numbers.now (length code.old) }
-    ensures { lent_call result code.new heap.new regs.new ≡ serve_bytes (start_of numbers.now h.old b.now r) numbers.now h.old r code.old heap.old regs.old budget }
+#[tactic(auto, using(crate::specs::VansDeskLaws::starts))]
+fn start_over(numbers: &[u32], h: &mut [u32], b: &[u32], r: [u32; 16], loan: &mut Loan) -> u64
+    requires fitting { Fitting (length b.now) (length h.old) (length loan.old.heap.now) (length loan.old.regs.now) }
+    requires ready { Ready numbers.now (length loan.old.out.now) }
+    ensures served { left_in result loan.new ≡ serve_bytes (start_of numbers.now h.old b.now r) numbers.now h.old r loan.old.out.now loan.old.heap.now loan.old.regs.now loan.old.budget }
+    ensures same { SameBuffers loan.old loan.new }
 {
-    let fault = start::check(numbers, h, b, &r);
-    if fault.number == 0 {
-        return run_erased(numbers, h, r, budget, code, heap, regs);
+    match start::check(numbers, h, b, &r) {
+        Ok(()) => run_erased(numbers, h, r, loan),
+        Err(fault) => refused(fault),
     }
-    answer(fault.number, fault.place as u32, 0)
 }
 
 // Copies block table and heap into rooms for their words, and starts over these.
-pub fn start_in(
-    t: &mut [u32],
-    h: &mut [u32],
-    numbers: &[u32],
-    code: &mut [u8],
-    blocks: &[u8],
-    heap: &mut [u8],
-    regs: &mut [u8],
-    budget: u32,
-) -> u64
-    requires blocks_in_bounds { length blocks.now ≤ length t.old * 4 }
-    requires heap_in_bounds { length heap.old ≤ length h.old * 4 }
-    requires whole { Whole (length blocks.now) (length heap.old) (length regs.old) }
-    requires ready { Ready numbers.now (length code.old) }
-    ensures { lent_call result code.new heap.new regs.new ≡ start_bytes numbers.now code.old blocks.now heap.old regs.old budget }
+pub fn start_in(t: &mut [u32], h: &mut [u32], numbers: &[u32], loan: &mut Loan) -> u64
+    requires blocks_in_bounds { length loan.old.table.now ≤ length t.old * 4 }
+    requires heap_in_bounds { length loan.old.heap.now ≤ length h.old * 4 }
+    requires whole { WholeLoan loan.old }
+    requires ready { Ready numbers.now (length loan.old.out.now) }
+    ensures served { left_in result loan.new ≡ start_bytes numbers.now loan.old.out.now loan.old.table.now loan.old.heap.now loan.old.regs.now loan.old.budget }
+    ensures same { SameBuffers loan.old loan.new }
 {
-    fill_front(blocks, t);
-    fill_front(heap, h);
-    let n = blocks.len() / 4;
+    let heap = &mut *loan.heap;
+    let regs = &mut *loan.regs;
+    fill(loan.table, t);
+    fill(heap, h);
+    let n = loan.table.len() / 4;
     let m = heap.len() / 4;
-    start_over(
-        numbers,
-        &mut h[..m],
-        &t[..n],
-        registers(regs),
-        budget,
-        code,
-        heap,
-        regs,
-    )
+    let r = registers(regs);
+    start_over(numbers, &mut h[..m], &t[..n], r, loan)
 }
 
 // 35, 30 and 34, by the buffers' bytes.
-fn size_fault(
-    numbers: &[u32],
-    code: usize,
-    heap: usize,
-    blocks: usize,
-    regs: usize,
-    budget: u32,
-) -> Fault
-    ensures { result ≡ bytes_size numbers.now code heap blocks regs budget }
+#[tactic(auto, using(crate::specs::VansDeskLaws::sizings))]
+fn size_fault(numbers: &[u32], loan: &Loan) -> Result<(), Fault>
+    ensures { verdict_in result ≡ bytes_size numbers.now (length loan.now.out.now) (length loan.now.heap.now) (length loan.now.table.now) (length loan.now.regs.now) loan.now.budget }
 {
+    let code = loan.out.len();
+    let heap = loan.heap.len();
+    let blocks = loan.table.len();
     let needed = eraser::needed(numbers);
-    let are_whole = whole(code, heap, blocks, regs);
+    let are_whole = whole(code, heap, blocks, loan.regs.len());
     let right = service::right_sizes(heap / 4, blocks / 4, are_whole);
-    service::sizes(needed, code / 4, right, budget)
+    service::sizes(needed, code / 4, right, loan.budget)
 }
 
 // Serves a listing's numbers: 35, 30 and 34, then the start and the run.
-pub fn serve_bytes(
-    numbers: &[u32],
-    code: &mut [u8],
-    heap: &mut [u8],
-    blocks: &[u8],
-    regs: &mut [u8],
-    budget: u32,
-) -> u64
+#[tactic(auto, using(crate::specs::VansDeskLaws::servings))]
+pub fn serve_bytes(numbers: &[u32], loan: &mut Loan) -> u64
     requires { Indexed (first_listed numbers.now) }
-    ensures { lent_call result code.new heap.new regs.new ≡ serve_bytes (bytes_fault numbers.now code.old heap.old blocks.now regs.old budget) numbers.now (words_of heap.old) (words_of regs.old) code.old heap.old regs.old budget }
+    ensures served { left_in result loan.new ≡ serve_bytes (bytes_fault numbers.now loan.old.out.now loan.old.heap.now loan.old.table.now loan.old.regs.now loan.old.budget) numbers.now (words_of loan.old.heap.now) (words_of loan.old.regs.now) loan.old.out.now loan.old.heap.now loan.old.regs.now loan.old.budget }
+    ensures same { SameBuffers loan.old loan.new }
 {
-    let size = size_fault(
-        numbers,
-        code.len(),
-        heap.len(),
-        blocks.len(),
-        regs.len(),
-        budget,
-    );
-    if size.number == 0 {
-        return over_room(0, START, numbers, code, blocks, heap, regs, budget);
+    match size_fault(numbers, loan) {
+        Ok(()) => over_room(Work::Start(numbers), loan),
+        Err(fault) => refused(fault),
     }
-    answer(size.number, size.place as u32, 0)
 }

@@ -6,7 +6,9 @@
 mod answers;
 mod buffers;
 mod desk_bytes;
+mod loan;
 mod packet_calls;
 mod rooms;
 mod run_call;
+mod tasks;
 mod words;

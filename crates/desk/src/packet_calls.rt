@@ -1,6 +1,6 @@
 // vans_read, vans_check, vans_erase and vans_desk: the calls on packets, on byte buffers.
 ghost use Rattle.std.specs.Prelude.{◌≡◌, ◌≤◌, length};
-ghost use Rattle.machine.specs.Numbers.{CODE_WORDS};
+ghost use Rattle.machine.specs.Numbers;
 ghost use Rattle.listing.specs.Limits;
 ghost use Rattle.listing.specs.Packet.{numbers_in};
 ghost use Rattle.listing.specs.Parts.{items_in};
@@ -8,165 +8,141 @@ ghost use Rattle.checker.specs.Check.{check_of};
 ghost use Rattle.start.specs.Start.{first_listed};
 ghost use Rattle.start.specs.ListedLaws.{Indexed};
 ghost use Rattle.desk.specs.PacketCall.{packet_call};
-ghost use Rattle.desk.specs.LentCall.{lent_call};
 ghost use Rattle.desk.specs.VansDesk.{vans_desk_of};
+ghost use Rattle.desk.specs.LentCall.{lent_call};
 ghost use Rattle.desk.specs.ReadCall.{handed_of, vans_read_of};
 ghost use Rattle.desk.specs.CheckCall.{vans_check_of};
 ghost use Rattle.desk.specs.EraseCall.{code_out, erased_out, vans_erase_of};
-ghost use Rattle.desk.specs.Tasks.{accepted_task, checked_task, task_of};
+ghost use Rattle.desk.specs.Loans.{left_in, SameBuffers};
+ghost use Rattle.desk.specs.Calls.{accepted_on, checked_on, task_on};
 
-use crate::answers::answer;
-use crate::buffers::code_room;
+use crate::answers::{answer, refused, unread};
 use crate::desk_bytes::serve_bytes;
+use crate::loan::Loan;
 use crate::rooms::in_room;
-use crate::words::spill_front;
-use checker::Checked;
-use listing::Taken;
-use listing::limits::{BYTES, TOO_LONG};
-use machine::numbers::BAD_SIZE;
-use service::numbers::DOES_NOT_FIT;
-
-// The calls that a room can be made for.
-const READ: u32 = 0;
-
-const CHECK: u32 = 1;
-
-const ERASE: u32 = 2;
-
-const DESK: u32 = 3;
+use crate::tasks::Task;
+use crate::words::spill;
+use listing::limits::BYTES;
+use machine::numbers::CODE_WORDS;
+use refusals::{Fault, Refusal};
 
 // Hands a packet's numbers over in bytes, where they fit.
+#[tactic(auto, using(crate::specs::ReadCallLaws::hands))]
 fn hand_over(numbers: &[u32], out: &mut [u8]) -> u64
     requires { length numbers.now ≤ Limits.BYTES }
     ensures { packet_call result out.new ≡ handed_of numbers.now (length numbers.now) out.old }
 {
     let n = numbers.len();
     if out.len() / 4 < n {
-        return answer(DOES_NOT_FIT, n as u32, 0);
+        return refused(Fault {
+            refusal: Refusal::DoesNotFit,
+            place: n,
+        });
     }
-    spill_front(numbers, out);
+    spill(numbers, out);
     answer(0, 0, n as u32)
 }
 
 // Reads the packet into a room that has a word for each of its bytes.
+#[tactic(auto, using(crate::specs::ReadCallLaws::reads))]
 fn read_in(room: &mut [u32], packet: &[u8], numbers: &mut [u8]) -> u64
     requires packet_in_bounds { length packet.now ≤ length room.old }
     requires packet_len_bound { length packet.now ≤ Limits.BYTES }
     ensures { packet_call result numbers.new ≡ vans_read_of packet.now numbers.old }
 {
     match listing::read(packet, room) {
-        Taken::Listing(n) => hand_over(&room[..n], numbers),
-        Taken::Fault(k, place) => answer(k, place as u32, 0),
-        Taken::NoRoom => answer(DOES_NOT_FIT, 0, 0),
+        Ok(n) => hand_over(&room[..n], numbers),
+        Err(error) => unread(error),
     }
 }
 
 // Hands a code over in bytes, where it fits a buffer of whole words.
+#[tactic(auto, using(crate::specs::EraseCallLaws::codes))]
 fn hand_code(code: &[u32], out: &mut [u8]) -> u64
-    requires { length code.now ≤ CODE_WORDS }
+    requires { length code.now ≤ Numbers.CODE_WORDS }
     ensures { packet_call result out.new ≡ code_out code.now out.old }
 {
     let n = code.len();
     if out.len() / 4 < n {
-        return answer(DOES_NOT_FIT, n as u32, 0);
+        return refused(Fault {
+            refusal: Refusal::DoesNotFit,
+            place: n,
+        });
     }
     if out.len() % 4 == 0 {
-        spill_front(code, out);
+        spill(code, out);
         return answer(0, 0, n as u32);
     }
-    answer(BAD_SIZE, 0, 0)
+    refused(Fault {
+        refusal: Refusal::BadSize,
+        place: 0,
+    })
 }
 
 // Erases a listing's numbers.
 fn erase_numbers(numbers: &[u32], out: &mut [u8]) -> u64
     ensures { packet_call result out.new ≡ erased_out (items_in numbers.now) out.old }
 {
-    let mut code = code_room();
+    let mut code = [0; CODE_WORDS];
     let n = eraser::erase(numbers, &mut code) as usize;
     hand_code(&code[..n], out)
 }
 
 // What a task does with the numbers of a packet that is accepted.
-fn accepted_in(
-    task: u32,
-    numbers: &[u32],
-    out: &mut [u8],
-    heap: &mut [u8],
-    blocks: &[u8],
-    regs: &mut [u8],
-    budget: u32,
-) -> u64
+#[tactic(auto, using(crate::specs::TaskLaws::accepteds))]
+fn accepted_in(task: Task, numbers: &[u32], loan: &mut Loan) -> u64
     requires { Indexed (first_listed numbers.now) }
-    ensures { lent_call result out.new heap.new regs.new ≡ accepted_task task numbers.now out.old heap.old blocks.now regs.old budget }
+    ensures did { left_in result loan.new ≡ accepted_on task numbers.now loan.old }
+    ensures same { SameBuffers loan.old loan.new }
 {
-    if task == CHECK {
-        return answer(0, 0, 0);
+    match task {
+        Task::Check => answer(0, 0, 0),
+        Task::Erase => erase_numbers(numbers, loan.out),
+        _ => serve_bytes(numbers, loan),
     }
-    if task == ERASE {
-        return erase_numbers(numbers, out);
-    }
-    serve_bytes(numbers, out, heap, blocks, regs, budget)
 }
 
 // Checks the packet in a room, and goes on by the task where it is accepted.
-fn checked_in(
-    task: u32,
-    room: &mut [u32],
-    packet: &[u8],
-    out: &mut [u8],
-    heap: &mut [u8],
-    blocks: &[u8],
-    regs: &mut [u8],
-    budget: u32,
-) -> u64
+#[tactic(auto, using(crate::specs::TaskLaws::checkings))]
+fn checked_in(task: Task, room: &mut [u32], packet: &[u8], loan: &mut Loan) -> u64
     requires packet_in_bounds { length packet.now ≤ length room.old }
     requires packet_len_bound { length packet.now ≤ Limits.BYTES }
-    ensures { lent_call result out.new heap.new regs.new ≡ checked_task task (check_of packet.now) (numbers_in packet.now) out.old heap.old blocks.now regs.old budget }
+    ensures did { left_in result loan.new ≡ checked_on task (check_of packet.now) (numbers_in packet.now) loan.old }
+    ensures same { SameBuffers loan.old loan.new }
 {
     match checker::check(packet, room) {
-        Checked::Accepted(n) => accepted_in(task, &room[..n], out, heap, blocks, regs, budget),
-        Checked::Refused(k, place) => answer(k, place as u32, 0),
-        Checked::NoRoom => answer(DOES_NOT_FIT, 0, 0),
+        Ok(n) => accepted_in(task, &room[..n], loan),
+        Err(error) => unread(error),
     }
 }
 
 // The call that a task is, in a room.
-pub fn task_in(
-    task: u32,
-    room: &mut [u32],
-    packet: &[u8],
-    out: &mut [u8],
-    heap: &mut [u8],
-    blocks: &[u8],
-    regs: &mut [u8],
-    budget: u32,
-) -> u64
+#[tactic(auto, using(crate::specs::TaskLaws::tasks))]
+pub fn task_in(task: Task, room: &mut [u32], packet: &[u8], loan: &mut Loan) -> u64
     requires packet_in_bounds { length packet.now ≤ length room.old }
     requires packet_len_bound { length packet.now ≤ Limits.BYTES }
-    ensures { lent_call result out.new heap.new regs.new ≡ task_of task packet.now out.old heap.old blocks.now regs.old budget }
+    ensures did { left_in result loan.new ≡ task_on task packet.now loan.old }
+    ensures same { SameBuffers loan.old loan.new }
 {
-    if task == READ {
-        return read_in(room, packet, out);
+    match task {
+        Task::Read => read_in(room, packet, loan.out),
+        _ => checked_in(task, room, packet, loan),
     }
-    checked_in(task, room, packet, out, heap, blocks, regs, budget)
 }
 
 // The call that a task is: 6, or in a room that is large enough.
-fn call(
-    task: u32,
-    packet: &[u8],
-    out: &mut [u8],
-    heap: &mut [u8],
-    blocks: &[u8],
-    regs: &mut [u8],
-    budget: u32,
-) -> u64
-    ensures { lent_call result out.new heap.new regs.new ≡ task_of task packet.now out.old heap.old blocks.now regs.old budget }
+#[tactic(auto, using(crate::specs::TaskLaws::tasks))]
+fn call(task: Task, packet: &[u8], loan: &mut Loan) -> u64
+    ensures did { left_in result loan.new ≡ task_on task packet.now loan.old }
+    ensures same { SameBuffers loan.old loan.new }
 {
     if BYTES < packet.len() {
-        return answer(TOO_LONG, 0, 0);
+        return refused(Fault {
+            refusal: Refusal::TooLong,
+            place: 0,
+        });
     }
-    in_room(0, task, packet, out, heap, blocks, regs, budget)
+    in_room(task, packet, loan)
 }
 
 // Reads a packet. The answer holds the refusal and its place, or 0 and the count of the listing's
@@ -175,17 +151,14 @@ fn call(
 pub extern "C" fn vans_read(packet: &[u8], numbers: &mut [u8]) -> u64
     ensures { packet_call result numbers.new ≡ vans_read_of packet.now numbers.old }
 {
-    let mut no_heap = [0u8; 1];
-    let mut no_regs = [0u8; 1];
-    call(
-        READ,
-        packet,
-        numbers,
-        &mut no_heap,
-        &[0u8; 1],
-        &mut no_regs,
-        0,
-    )
+    let loan = &mut Loan {
+        out: numbers,
+        heap: &mut [],
+        table: &[],
+        regs: &mut [],
+        budget: 0,
+    };
+    call(Task::Read, packet, loan)
 }
 
 // Checks a packet. The answer holds the refusal and its place, or 0 where it is accepted.
@@ -193,18 +166,14 @@ pub extern "C" fn vans_read(packet: &[u8], numbers: &mut [u8]) -> u64
 pub extern "C" fn vans_check(packet: &[u8]) -> u64
     ensures { result ≡ vans_check_of packet.now }
 {
-    let mut nothing = [0u8; 1];
-    let mut no_heap = [0u8; 1];
-    let mut no_regs = [0u8; 1];
-    call(
-        CHECK,
-        packet,
-        &mut nothing,
-        &mut no_heap,
-        &[0u8; 1],
-        &mut no_regs,
-        0,
-    )
+    let loan = &mut Loan {
+        out: &mut [],
+        heap: &mut [],
+        table: &[],
+        regs: &mut [],
+        budget: 0,
+    };
+    call(Task::Check, packet, loan)
 }
 
 // Erases a packet that is accepted. The answer holds the refusal and its place, or 0 and the count of
@@ -213,17 +182,14 @@ pub extern "C" fn vans_check(packet: &[u8]) -> u64
 pub extern "C" fn vans_erase(packet: &[u8], code: &mut [u8]) -> u64
     ensures { packet_call result code.new ≡ vans_erase_of packet.now code.old }
 {
-    let mut no_heap = [0u8; 1];
-    let mut no_regs = [0u8; 1];
-    call(
-        ERASE,
-        packet,
-        code,
-        &mut no_heap,
-        &[0u8; 1],
-        &mut no_regs,
-        0,
-    )
+    let loan = &mut Loan {
+        out: code,
+        heap: &mut [],
+        table: &[],
+        regs: &mut [],
+        budget: 0,
+    };
+    call(Task::Erase, packet, loan)
 }
 
 // The desk call on byte buffers. The answer holds the refusal and its place, or the status and the count
@@ -240,5 +206,12 @@ pub extern "C" fn vans_desk(
 ) -> u64
     ensures { lent_call result code.new heap.new regs.new ≡ vans_desk_of packet.now code.old heap.old blocks.now regs.old budget }
 {
-    call(DESK, packet, code, heap, blocks, regs, budget)
+    let loan = &mut Loan {
+        out: code,
+        heap,
+        table: blocks,
+        regs,
+        budget,
+    };
+    call(Task::Desk, packet, loan)
 }

@@ -1,12 +1,13 @@
-// Rooms for the numbers of a packet. Each call on a packet reads it into a room that it owns; `task`
-// says which call it is.
+// Rooms for the numbers of a packet. Each call on a packet reads it into a room that it owns.
 ghost use Rattle.std.specs.Prelude.{◌≡◌, ◌≤◌, length};
-ghost use Rattle.listing.specs.Limits.{BYTES};
-ghost use Rattle.desk.specs.LentCall.{lent_call};
-ghost use Rattle.desk.specs.Tasks.{task_of};
-ghost use Rattle.desk.specs.Tasks;
+ghost use Rattle.listing.specs.Limits;
+ghost use Rattle.desk.specs.Loans.{left_in, SameBuffers};
+ghost use Rattle.desk.specs.Calls.{task_on};
 
+use crate::loan::Loan;
 use crate::packet_calls::task_in;
+use crate::tasks::Task;
+use listing::limits::BYTES;
 
 // The bytes of packets for which there is a room of their own. The longest packet that is taken has
 // fewer bytes than a long one here.
@@ -18,143 +19,34 @@ const MIDDLE_PACKET: usize = 4096;
 
 const LONG_PACKET: usize = 20480;
 
-// Rooms for the numbers of a packet, a word for each byte, in sizes: a short packet does not pay for
-// clearing the longest one's room.
-
-fn small_room() -> [u32; SMALL_PACKET] {
-    [0; SMALL_PACKET]
-}
-
-fn short_room() -> [u32; SHORT_PACKET] {
-    [0; SHORT_PACKET]
-}
-
-fn middle_room() -> [u32; MIDDLE_PACKET] {
-    [0; MIDDLE_PACKET]
-}
-
-fn long_room() -> [u32; LONG_PACKET] {
-    [0; LONG_PACKET]
-}
-
-fn in_small(
-    task: u32,
-    packet: &[u8],
-    out: &mut [u8],
-    heap: &mut [u8],
-    blocks: &[u8],
-    regs: &mut [u8],
-    budget: u32,
-) -> u64
-    requires { length packet.now ≤ Tasks.SMALL_PACKET }
-    ensures { lent_call result out.new heap.new regs.new ≡ task_of task packet.now out.old heap.old blocks.now regs.old budget }
+// In a room for so many numbers, a word for each byte of the packet. Each size has a stack frame of its own.
+#[inline(never)]
+fn in_room_of<const N: usize>(task: Task, packet: &[u8], loan: &mut Loan) -> u64
+    requires room { N ≤ Limits.BYTES }
+    requires packet_in_bounds { length packet.now ≤ N }
+    ensures did { left_in result loan.new ≡ task_on task packet.now loan.old }
+    ensures same { SameBuffers loan.old loan.new }
 {
-    let mut room = small_room();
-    task_in(task, &mut room, packet, out, heap, blocks, regs, budget)
+    let mut room = [0; N];
+    task_in(task, &mut room, packet, loan)
 }
 
-fn in_short(
-    task: u32,
-    packet: &[u8],
-    out: &mut [u8],
-    heap: &mut [u8],
-    blocks: &[u8],
-    regs: &mut [u8],
-    budget: u32,
-) -> u64
-    requires { length packet.now ≤ Tasks.SHORT_PACKET }
-    ensures { lent_call result out.new heap.new regs.new ≡ task_of task packet.now out.old heap.old blocks.now regs.old budget }
+// In the smallest room that the packet fits: a short one does not pay for clearing the longest one's room.
+pub fn in_room(task: Task, packet: &[u8], loan: &mut Loan) -> u64
+    requires { length packet.now ≤ Limits.BYTES }
+    ensures did { left_in result loan.new ≡ task_on task packet.now loan.old }
+    ensures same { SameBuffers loan.old loan.new }
 {
-    let mut room = short_room();
-    task_in(task, &mut room, packet, out, heap, blocks, regs, budget)
-}
-
-fn in_middle(
-    task: u32,
-    packet: &[u8],
-    out: &mut [u8],
-    heap: &mut [u8],
-    blocks: &[u8],
-    regs: &mut [u8],
-    budget: u32,
-) -> u64
-    requires { length packet.now ≤ Tasks.MIDDLE_PACKET }
-    ensures { lent_call result out.new heap.new regs.new ≡ task_of task packet.now out.old heap.old blocks.now regs.old budget }
-{
-    let mut room = middle_room();
-    task_in(task, &mut room, packet, out, heap, blocks, regs, budget)
-}
-
-fn in_long(
-    task: u32,
-    packet: &[u8],
-    out: &mut [u8],
-    heap: &mut [u8],
-    blocks: &[u8],
-    regs: &mut [u8],
-    budget: u32,
-) -> u64
-    requires { length packet.now ≤ Tasks.LONG_PACKET }
-    ensures { lent_call result out.new heap.new regs.new ≡ task_of task packet.now out.old heap.old blocks.now regs.old budget }
-{
-    let mut room = long_room();
-    task_in(task, &mut room, packet, out, heap, blocks, regs, budget)
-}
-
-fn in_longest(
-    task: u32,
-    packet: &[u8],
-    out: &mut [u8],
-    heap: &mut [u8],
-    blocks: &[u8],
-    regs: &mut [u8],
-    budget: u32,
-) -> u64
-    requires { length packet.now ≤ BYTES }
-    ensures { lent_call result out.new heap.new regs.new ≡ task_of task packet.now out.old heap.old blocks.now regs.old budget }
-{
-    let mut room = service::longest_room();
-    task_in(task, &mut room, packet, out, heap, blocks, regs, budget)
-}
-
-// Tries the rooms from a size on. It calls itself for the next size, as over_room does and for the same
-// reason: with the older compiler a short packet did not make the longest room's stack frame.
-pub fn in_room(
-    size: u32,
-    task: u32,
-    packet: &[u8],
-    out: &mut [u8],
-    heap: &mut [u8],
-    blocks: &[u8],
-    regs: &mut [u8],
-    budget: u32,
-) -> u64
-    requires { length packet.now ≤ BYTES }
-    ensures { lent_call result out.new heap.new regs.new ≡ task_of task packet.now out.old heap.old blocks.now regs.old budget }
-{
-    if size == 0 {
-        if packet.len() <= SMALL_PACKET {
-            return in_small(task, packet, out, heap, blocks, regs, budget);
-        }
-        return in_room(1, task, packet, out, heap, blocks, regs, budget);
+    let n = packet.len();
+    if n <= SMALL_PACKET {
+        in_room_of::<SMALL_PACKET>(task, packet, loan)
+    } else if n <= SHORT_PACKET {
+        in_room_of::<SHORT_PACKET>(task, packet, loan)
+    } else if n <= MIDDLE_PACKET {
+        in_room_of::<MIDDLE_PACKET>(task, packet, loan)
+    } else if n <= LONG_PACKET {
+        in_room_of::<LONG_PACKET>(task, packet, loan)
+    } else {
+        in_room_of::<BYTES>(task, packet, loan)
     }
-    if size == 1 {
-        if packet.len() <= SHORT_PACKET {
-            return in_short(task, packet, out, heap, blocks, regs, budget);
-        }
-        return in_room(2, task, packet, out, heap, blocks, regs, budget);
-    }
-    if size == 2 {
-        if packet.len() <= MIDDLE_PACKET {
-            return in_middle(task, packet, out, heap, blocks, regs, budget);
-        }
-        return in_room(3, task, packet, out, heap, blocks, regs, budget);
-    }
-    if size == 3 {
-        if packet.len() <= LONG_PACKET {
-            return in_long(task, packet, out, heap, blocks, regs, budget);
-        }
-        return in_room(4, task, packet, out, heap, blocks, regs, budget);
-    }
-    in_longest(task, packet, out, heap, blocks, regs, budget)
 }

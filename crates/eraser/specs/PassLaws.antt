@@ -1,8 +1,8 @@
 -- Laws for the eraser's code: one for each way through it. Two passes go over the items; each has its whole result as what is left of it from each item on. `by_kept`, `passes` and `calls` hold the laws for a search; the laws of a turn take the invariant first, from which a search has the rest.
-use Prim.Native.Nat.{ℕ, suc, ◌+◌, ◌-◌, ◌*◌, ◌≤◌, ◌<◌}
+use Prim.Native.Nat.{ℕ, suc, ◌+◌, ◌≤◌, ◌<◌}
 use Rattle.std.proofs.Common.{zero-add, add-one, ◌∙◌}
 use native.Mathlib.Omega.{arith}
-use Rattle.std.specs.Prelude.{◌≡◌, refl, Bool, true, false}
+use Rattle.std.specs.Prelude.{◌≡◌, refl, Bool, true, false, Option, Some, None}
 use Rattle.std.proofs.Math.Path.{sym, ap}
 use mathlib.Core.List.{List, [], ◌∷◌, ◌++◌, map}
 use Rattle.std.proofs.Math.ListN.{length, set, drop}
@@ -10,16 +10,16 @@ use Rattle.std.proofs.lemmas.List.{length-map}
 use Rattle.std.proofs.lemmas.List.Edits.{sets}
 use Rattle.std.proofs.Math.Seq.{sets-eq}
 use Rattle.choice.specs.Ends.{set_past}
-use Rattle.choice.specs.Pick.{pick, is_true, is_false, is_less, not_less}
+use Rattle.choice.specs.Pick.{pick, each_way, is_true, is_false, is_less, not_less}
 use Rattle.listing.specs.declared.items.Item.{Item}
-use Rattle.listing.specs.Limits.{ITEMS}
+use Rattle.listing.specs.declared.items.Item.TheVariants.{Halt, Jmp, Bnz, Load, Store, Compute, ComputeImmediate, Cpush, Cjmp, Label}
+use Rattle.listing.specs.Limits.{LABELS, ITEMS}
 use Rattle.listing.specs.Parts.{parts_from, count_at, item_at, behind_item, items_place, items_in}
-use Rattle.listing.specs.PlaceLaws.{ITEM_NUMBERS, LISTING_NUMBERS}
 use Rattle.eraser.specs.Erase.{kept_of, kept_in, needed_of, count_behind, pass_from, label_of, entered, addresses_from, no_addresses, addresses_of, word_for, code_of, erased_by, erase_of, erase_items}
 
--- the word of an item that is known by its parts
-pub as_item : (addresses : List ℕ) (i x : Item) (w : ℕ) → i ≡ x → w ≡ word_for addresses x → w ≡ word_for addresses i
-as_item addresses i x w e p = p ∙ ap (word_for addresses) (sym e)
+-- the word of an item that is kept
+unfoldable pub kept_word : List ℕ → Item → Option ℕ
+kept_word addresses i = pick (kept_of i) (Some (word_for addresses i)) None
 
 -- a kept item's word goes to the place of its count; the words of all items
 unfoldable pub put_of : List ℕ → Item → ℕ → List ℕ → List ℕ
@@ -28,14 +28,31 @@ put_of addresses i count code = pick (kept_of i) (set code count (word_for addre
 abbrev pub written_from : List ℕ → List Item → ℕ → List ℕ → List ℕ
 written_from addresses items count code = pass_from (put_of addresses) items count code
 
--- the label l that an item places is entered, where the table has an entry for it
-module _ (i : Item) (l count : ℕ) (addresses : List ℕ) (e : l ≡ label_of i) where
-  pub enters : set addresses l count ≡ entered i count addresses
-  unfolding entered
-  enters = ap (λ (k : ℕ). set addresses k count) e
+no_label : (i : Item) → ((l : ℕ) → i ≡ Label l → ⊥) → label_of i ≡ LABELS
+no_label Halt n = refl
+no_label (Jmp l) n = refl
+no_label (Bnz rs l) n = refl
+no_label (Load rd rs c) n = refl
+no_label (Store rd c rs) n = refl
+no_label (Compute op rd rs rt) n = refl
+no_label (ComputeImmediate op rd rs i) n = refl
+no_label (Cpush l) n = refl
+no_label (Cjmp l) n = refl
+no_label (Label l) n = absurd (n l refl)
 
-  pub enters_not : length addresses ≤ l → addresses ≡ entered i count addresses
-  enters_not h = set_past addresses l count h ∙ enters
+-- the label that an item places is entered, where the table has an entry for it
+module _ (i : Item) (count : ℕ) (addresses : List ℕ) where
+  module _ (l : ℕ) (e : i ≡ Label l) where
+    pub enters : set addresses l count ≡ entered i count addresses
+    unfolding entered
+    enters = ap (λ (k : Item). set addresses (label_of k) count) (sym e)
+
+    pub enters_not : length addresses ≤ l → addresses ≡ entered i count addresses
+    enters_not h = set_past addresses l count h ∙ enters
+
+  pub enters_none : ((l : ℕ) → i ≡ Label l → ⊥) → length addresses ≤ LABELS → addresses ≡ entered i count addresses
+  unfolding entered
+  enters_none n h = set_past addresses LABELS count h ∙ ap (λ (k : ℕ). set addresses k count) (sym (no_label i n))
 
 -- an item that is kept, and one that is not: k is the answer of `kept`
 module _ (i : Item) (k : Bool) (e : k ≡ kept_of i) (count : ℕ) where
@@ -47,14 +64,6 @@ module _ (i : Item) (k : Bool) (e : k ≡ kept_of i) (count : ℕ) where
     unfolding count_behind
     counts = is_kept (count + 1) count
 
-    pub puts : (addresses code : List ℕ) (w : ℕ) → w ≡ word_for addresses i → set code count w ≡ put_of addresses i count code
-    unfolding put_of
-    puts addresses code w p = ap (set code count) p ∙ is_kept _ code
-
-    -- where there is room behind the item, there is room for its word
-    pub has_room : (room : ℕ) → count_behind i count ≤ room → count < room
-    has_room room p = omega (arith, counts)
-
   module _ (h : k ≡ false) where
     is_dropped : {A : Type 0} (x y : A) → y ≡ pick (kept_of i) x y
     is_dropped x y = is_false (kept_of i) y x y (sym e ∙ h) refl
@@ -63,24 +72,45 @@ module _ (i : Item) (k : Bool) (e : k ≡ kept_of i) (count : ℕ) where
     unfolding count_behind
     counts_not = is_dropped (count + 1) count
 
-    pub puts_not : (addresses code : List ℕ) → code ≡ put_of addresses i count code
+pub ruleset by_kept = (counts, counts_not)
+
+-- an item's word, where it has one: there is room for it where there is room behind the item
+module _ (addresses : List ℕ) (i : Item) (count : ℕ) where
+  word_kept : (w : ℕ) → Some w ≡ kept_word addresses i → (kept_of i ≡ true) × (w ≡ word_for addresses i)
+  unfolding kept_word
+  word_kept w e = each_way (λ (o : Option ℕ). Some w ≡ o → (kept_of i ≡ true) × (w ≡ word_for addresses i)) (kept_of i) _ _ (λ k s. (k, cc)) (λ k s. cc) e
+
+  no_word : None ≡ kept_word addresses i → kept_of i ≡ false
+  unfolding kept_word
+  no_word e = each_way (λ (o : Option ℕ). None ≡ o → kept_of i ≡ false) (kept_of i) _ _ (λ k s. cc) (λ k s. k) e
+
+  module _ (w : ℕ) (e : Some w ≡ kept_word addresses i) where
+    pub word_counts : count + 1 ≡ count_behind i count
+    word_counts = counts i true (sym (word_kept w e).0) count refl
+
+    pub has_room : (room : ℕ) → count_behind i count ≤ room → count < room
+    has_room room h = omega (arith, word_counts)
+
+    pub puts : (code : List ℕ) → set code count w ≡ put_of addresses i count code
     unfolding put_of
-    puts_not addresses code = is_dropped _ code
+    puts code = let k = word_kept w e in is_true (kept_of i) _ _ code k.0 (ap (set code count) k.1)
 
-pub ruleset by_kept = (counts, puts, has_room, counts_not, puts_not)
+  module _ (e : None ≡ kept_word addresses i) where
+    pub none_counts : count ≡ count_behind i count
+    none_counts = counts_not i false (sym (no_word e)) count refl
 
--- the items that are left: so many from a place on
-abbrev pub items_left : List ℕ → ℕ → ℕ → List Item
-items_left ns at left = parts_from (item_at ns) (behind_item ns) at left
+    pub puts_not : (code : List ℕ) → code ≡ put_of addresses i count code
+    unfolding put_of
+    puts_not code = is_false (kept_of i) code _ code (no_word e) refl
 
--- a pass over the items of a listing: its words and its count are what the items that are left make of them, and every place and count is small
-abbrev pub Passing : (Item → ℕ → List ℕ → List ℕ) → List ℕ → List ℕ → ℕ → ℕ → ℕ → List ℕ → Type 0
-Passing change ns words₀ at left count words =
-    (pass_from change (items_in ns) 0 words₀ ≡ pass_from change (items_left ns at left) count words)
-    × (needed_of (items_in ns) ≡ count + needed_of (items_left ns at left))
+pub ruleset putting = (word_counts, has_room, puts, none_counts, puts_not)
+
+-- a pass over items: its words and its count are what the items that are left make of them
+abbrev pub Passing : (Item → ℕ → List ℕ → List ℕ) → List Item → List ℕ → List Item → ℕ → List ℕ → Type 0
+Passing change items words₀ left count words =
+    (pass_from change items 0 words₀ ≡ pass_from change left count words)
+    × (needed_of items ≡ count + needed_of left)
     × (length words ≡ length words₀)
-    × (count + left ≤ ITEMS)
-    × (at + ITEM_NUMBERS * left ≤ LISTING_NUMBERS)
 
 -- the count of kept items, and the words that are written, one item on: by whether it is kept
 needed_way : (t : Bool) (i : Item) (items : List Item) (count : ℕ) → count + length (pick t (i ∷ items) items) ≡ pick t (count + 1) count + length items
@@ -104,57 +134,49 @@ written_is_code addresses [] count code = refl
 written_is_code addresses (i ∷ items) count code =
     written_is_code addresses items (count_behind i count) (put_of addresses i count code) ∙ sets_way (kept_of i) (word_for addresses) i (kept_in items) code count
 
--- a turn of a pass in the code's terms, for any function of the items that are left; for the count, and for the words
-module _ (ns : List ℕ) (at left : ℕ) where
-  turned : {A : Type 0} (f : List Item → A) {whole : A} → whole ≡ f (items_left ns at left) → 0 < left → {i : Item} → i ≡ item_at ns at → {next : ℕ} → next ≡ behind_item ns at
-      → whole ≡ f (i ∷ items_left ns next (left - 1))
-  unfolding parts_from
-  turned f inv h e p =
-      let more : left ≡ suc (left - 1) = omega arith in
-      inv ∙ ap (λ (n : ℕ). f (items_left ns at n)) more ∙ sym (λ j. f (e j ∷ items_left ns (p j) (left - 1)))
+-- a turn of a pass in the code's terms, for the count and for the words; and where it ends
+module _ (count : ℕ) (left : List Item) where
+  module _ (i : Item) (left' : List Item) (e : left ≡ i ∷ left') where
+    pub needed_turn : (whole count' : ℕ) → whole ≡ count + needed_of left → count' ≡ count_behind i count → whole ≡ count' + needed_of left'
+    needed_turn whole count' inv q = rw q (inv ∙ ap (λ (l : List Item). count + needed_of l) e ∙ needed_more i left' count)
 
-  module _ (count : ℕ) where
-    pub needed_turn : (whole : ℕ) → whole ≡ count + needed_of (items_left ns at left) → 0 < left → (i : Item) → i ≡ item_at ns at
-        → (next : ℕ) → next ≡ behind_item ns at → (count' : ℕ) → count' ≡ count_behind i count → whole ≡ count' + needed_of (items_left ns next (left - 1))
-    needed_turn whole inv h i e next p count' q = rw q (turned (λ l. count + needed_of l) inv h e p ∙ needed_more i _ count)
+    pub turn_fits : (whole room room₀ : ℕ) → whole ≡ count + needed_of left → room ≡ room₀ → whole ≤ room₀ → count_behind i count ≤ room
+    turn_fits whole room room₀ inv r h = omega (arith, needed_turn whole (count_behind i count) inv refl)
 
-    pub turn_fits : (whole : ℕ) → whole ≡ count + needed_of (items_left ns at left) → 0 < left → (i : Item) → i ≡ item_at ns at
-        → (room room₀ : ℕ) → room ≡ room₀ → whole ≤ room₀ → count_behind i count ≤ room
-    turn_fits whole inv h i e room room₀ r k = omega (arith, needed_turn whole inv h i e (behind_item ns at) refl (count_behind i count) refl)
-
-    pub words_turn : (change : Item → ℕ → List ℕ → List ℕ) (whole words : List ℕ) → whole ≡ pass_from change (items_left ns at left) count words → 0 < left
-        → (i : Item) → i ≡ item_at ns at → (words' : List ℕ) → words' ≡ change i count words → (next : ℕ) → next ≡ behind_item ns at → (count' : ℕ) → count' ≡ count_behind i count
-        → whole ≡ pass_from change (items_left ns next (left - 1)) count' words'
+    pub words_turn : (change : Item → ℕ → List ℕ → List ℕ) (whole words words' : List ℕ) (count' : ℕ) → whole ≡ pass_from change left count words
+        → words' ≡ change i count words → count' ≡ count_behind i count → whole ≡ pass_from change left' count' words'
     unfolding pass_from
-    words_turn change whole words inv h i e words' s next p count' q = rw (q, s) (turned (λ l. pass_from change l count words) inv h e p)
+    words_turn change whole words words' count' inv s q = rw (q, s) (inv ∙ ap (λ (l : List Item). pass_from change l count words) e)
+
+  module _ (e : left ≡ []) where
+    pub needed_ends : (whole : ℕ) → whole ≡ count + needed_of left → count ≡ whole
+    unfolding needed_of kept_in
+    needed_ends whole inv = sym (inv ∙ ap (λ (l : List Item). count + needed_of l) e ∙ omega arith)
+
+    pub words_end : (change : Item → ℕ → List ℕ → List ℕ) (whole words : List ℕ) → whole ≡ pass_from change left count words → words ≡ whole
+    unfolding pass_from
+    words_end change whole words inv = sym (inv ∙ ap (λ (l : List Item). pass_from change l count words) e)
 
 -- where a pass begins
-module _ (ns : List ℕ) (place left : ℕ) (e : place ≡ items_place ns) (c : left ≡ count_at ITEMS ns place) where
-  all_left : items_in ns ≡ items_left ns (place + 1) left
-  unfolding items_in
-  all_left = rw (← e) (ap (items_left ns (place + 1)) (sym c))
+pub pass_begins : (change : Item → ℕ → List ℕ → List ℕ) (items left : List Item) (words : List ℕ) → left ≡ items → Passing change items words left 0 words
+pass_begins change items left words e = (ap (λ (l : List Item). pass_from change l 0 words) (sym e), ap needed_of (sym e) ∙ sym (zero-add _), refl)
 
-  pub needed_begins : needed_of (items_in ns) ≡ 0 + needed_of (items_left ns (place + 1) left)
-  needed_begins = ap needed_of all_left ∙ sym (zero-add _)
+-- the items that are left: so many from a place on; the next one and the rest, or none, or all
+abbrev pub items_from : List ℕ → ℕ → ℕ → List Item
+items_from ns at left = parts_from (item_at ns) (behind_item ns) at left
 
-  pub words_begin : (change : Item → ℕ → List ℕ → List ℕ) (words : List ℕ) → pass_from change (items_in ns) 0 words ≡ pass_from change (items_left ns (place + 1) left) 0 words
-  words_begin change words = ap (λ (l : List Item). pass_from change l 0 words) all_left
-
--- and where it ends: nothing is left
-module _ (ns : List ℕ) (at left : ℕ) (h : left ≤ 0) where
-  none_left : items_left ns at left ≡ []
+module _ (ns : List ℕ) (at left : ℕ) where
+  pub left_more : (left' : ℕ) → left ≡ suc left' → (i : Item) → i ≡ item_at ns at → (next : ℕ) → next ≡ behind_item ns at → items_from ns at left ≡ i ∷ items_from ns next left'
   unfolding parts_from
-  none_left = let none : left ≡ 0 = omega arith in ap (items_left ns at) none
+  left_more left' one i e next p = ap (items_from ns at) one ∙ sym (λ j. e j ∷ items_from ns (p j) left')
 
-  pub needed_ends : (whole count : ℕ) → whole ≡ count + needed_of (items_left ns at left) → count ≡ whole
-  unfolding needed_of kept_in
-  needed_ends whole count inv = sym (inv ∙ ap (λ (l : List Item). count + needed_of l) none_left ∙ omega arith)
+  pub left_none : left ≤ 0 → items_from ns at left ≡ []
+  unfolding parts_from
+  left_none h = let none : left ≡ 0 = omega arith in ap (items_from ns at) none
 
-  pub words_end : (change : Item → ℕ → List ℕ → List ℕ) (whole words : List ℕ) (count : ℕ) → whole ≡ pass_from change (items_left ns at left) count words → words ≡ whole
-  unfolding pass_from
-  words_end change whole words count inv = sym (inv ∙ ap (λ (l : List Item). pass_from change l count words) none_left)
-
-pub ruleset passes = (needed_begins, words_begin, needed_ends, words_end)
+pub left_all : (ns : List ℕ) (place left n : ℕ) → place ≡ items_place ns → n ≡ count_at ITEMS ns place → left ≡ n → items_from ns (place + 1) left ≡ items_in ns
+unfolding items_in
+left_all ns place left n e c l = rw (← e) (ap (items_from ns (place + 1)) (l ∙ c))
 
 -- the code has a word for each kept item
 pub code_length : (addresses : List ℕ) (items : List Item) → length (code_of addresses items) ≡ needed_of items

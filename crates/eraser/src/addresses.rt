@@ -10,21 +10,11 @@ use listing::{Item, behind_item, count_at, item_at, items_place};
 pub fn kept(item: Item) -> bool
     ensures { result ≡ kept_of item }
 {
-    match item {
-        Item::Halt => true,
-        Item::Jmp(_) => true,
-        Item::Bnz(_, _) => true,
-        Item::Load(_, _, _) => true,
-        Item::Store(_, _, _) => true,
-        Item::Compute(_, _, _, _) => true,
-        Item::ComputeImmediate(_, _, _, _) => true,
-        Item::Cpush(_) => false,
-        Item::Cjmp(_) => true,
-        Item::Label(_) => false,
-    }
+    !matches!(item, Item::Cpush(_) | Item::Label(_))
 }
 
 // The count of kept items behind an item.
+#[tactic(auto, unfolding(crate::specs::Erase::count_behind, choice::specs::Pick::pick))]
 pub fn count_behind(item: Item, count: u32) -> u32
     requires { count < 2 ^ 31 }
     ensures value { result ≡ count_behind item count }
@@ -33,35 +23,20 @@ pub fn count_behind(item: Item, count: u32) -> u32
     if kept(item) { count + 1 } else { count }
 }
 
-// The label that an item places; LABELS where it places none.
-fn label_of(item: Item) -> u32
-    ensures { result ≡ label_of item }
-{
-    match item {
-        Item::Halt => LABELS,
-        Item::Jmp(_) => LABELS,
-        Item::Bnz(_, _) => LABELS,
-        Item::Load(_, _, _) => LABELS,
-        Item::Store(_, _, _) => LABELS,
-        Item::Compute(_, _, _, _) => LABELS,
-        Item::ComputeImmediate(_, _, _, _) => LABELS,
-        Item::Cpush(_) => LABELS,
-        Item::Cjmp(_) => LABELS,
-        Item::Label(l) => l,
-    }
-}
-
 // Enters the address of the label that an item places, if the table has an entry for it.
-fn enter(item: Item, count: u32, addresses: &mut [u32])
+fn enter(item: Item, count: u32, addresses: &mut [u32; LABELS as usize])
     ensures { addresses.new ≡ entered item count addresses.old }
 {
-    let i = label_of(item) as usize;
-    if i < addresses.len() {
-        addresses[i] = count;
+    if let Item::Label(l) = item {
+        let i = l as usize;
+        if i < addresses.len() {
+            addresses[i] = count;
+        }
     }
 }
 
 // A table with no address in it.
+#[tactic(auto, unfolding(crate::specs::Erase::no_addresses))]
 pub fn no_addresses() -> [u32; LABELS as usize]
     ensures { result ≡ no_addresses }
 {
@@ -69,20 +44,19 @@ pub fn no_addresses() -> [u32; LABELS as usize]
 }
 
 // Enters the address of each label, and counts the kept items.
-pub fn enter_all(numbers: &[u32], addresses: &mut [u32]) -> u32
+pub fn enter_all(numbers: &[u32], addresses: &mut [u32; LABELS as usize]) -> u32
     ensures value { result ≡ needed_of (items_in numbers.now) }
     ensures entered { addresses.new ≡ addresses_from (items_in numbers.now) 0 addresses.old }
 {
     let place = items_place(numbers);
     let mut at = place + 1;
-    let mut left = count_at(ITEMS, numbers, place);
     let mut count = 0;
-    while 0 < left {
+    // By the iterator over the items this pass is an eighth slower.
+    for _ in 0..count_at(ITEMS, numbers, place) {
         let item = item_at(numbers, at);
         enter(item, count, addresses);
         count = count_behind(item, count);
         at = behind_item(numbers, at);
-        left -= 1;
     }
     count
 }

@@ -11,11 +11,13 @@ pub fn needed(numbers: &[u32]) -> u32
     ensures { result ≡ needed_of (items_in numbers.now) }
 {
     let mut addresses = no_addresses();
+    // Counting the kept items by the iterator, with no table, is a quarter slower.
     enter_all(numbers, &mut addresses)
 }
 
 // Erases a listing's numbers into the buffer, if the code fits, and answers how many words it needs.
 // Where it does not fit, nothing is written; words past the code keep their values.
+#[tactic(auto, using(crate::specs::PassLaws::calls))]
 pub fn erase(numbers: &[u32], code: &mut [u32]) -> u32
     ensures { erased_by result code.new ≡ erase_of numbers.now code.old }
 {

@@ -1,11 +1,10 @@
 // The code words of the kept items.
-ghost use Rattle.std.specs.Prelude.{◌≡◌, ◌≤◌, length};
+ghost use Rattle.std.specs.Prelude.{◌≡◌, ◌≤◌, ◌<◌, ◌^◌, length};
 ghost use Rattle.listing.specs.Parts.{items_in};
-ghost use Rattle.eraser.specs.Erase.{needed_of, count_behind, address_at, immediate_of, cut_word, word_for};
-ghost use Rattle.eraser.specs.PassLaws.{put_of, written_from};
+ghost use Rattle.eraser.specs.Erase.{needed_of, count_behind, address_at, immediate_of, cut_word};
+ghost use Rattle.eraser.specs.PassLaws.{kept_word, put_of, written_from};
 
-use crate::addresses::{count_behind, kept};
-use listing::limits::ITEMS;
+use listing::limits::{ITEMS, LABELS};
 use listing::{Item, behind_item, count_at, item_at, items_place, number_at};
 
 // A word of an opcode, rd, rs, rt and a low half, each cut to its bits.
@@ -20,7 +19,7 @@ fn cut_word(op: u32, rd: u32, rs: u32, rt: u32, low: u32) -> u32
 }
 
 // The word of a jump to a label, by the table of addresses.
-fn jump_word(op: u32, rs: u32, l: u32, addresses: &[u32]) -> u32
+fn jump_word(op: u32, rs: u32, l: u32, addresses: &[u32; LABELS as usize]) -> u32
     ensures { result ≡ cut_word op 0 rs 0 (address_at addresses.now l) }
 {
     cut_word(op, 0, rs, 0, number_at(addresses, l as usize))
@@ -33,49 +32,51 @@ fn immediate_word(op: u32, rd: u32, rs: u32, i: u32) -> u32
     cut_word(op, rd, rs, 0, i % 0x0001_0000 + 32768)
 }
 
-// The word of an item: its opcode is its item number, and 15, which is none, where it has no word.
-fn word(item: Item, addresses: &[u32]) -> u32
-    ensures { result ≡ word_for addresses.now item }
+// The word of an item, if it is kept: its opcode is its item number, and a cjmp's that of a jmp.
+#[tactic(auto, unfolding(crate::specs::PassLaws::kept_word, choice::specs::Pick::pick))]
+fn word(item: Item, addresses: &[u32; LABELS as usize]) -> Option<u32>
+    ensures { result ≡ kept_word addresses.now item }
 {
     match item {
-        Item::Halt => cut_word(0, 0, 0, 0, 0),
-        Item::Jmp(l) => jump_word(1, 0, l, addresses),
-        Item::Bnz(rs, l) => jump_word(2, rs, l, addresses),
-        Item::Load(rd, rs, c) => cut_word(3, rd, rs, 0, c),
-        Item::Store(rd, c, rs) => cut_word(4, rd, rs, 0, c),
-        Item::Compute(op, rd, rs, rt) => cut_word(op, rd, rs, rt, 0),
-        Item::ComputeImmediate(op, rd, rs, i) => immediate_word(op, rd, rs, i),
-        Item::Cpush(_) => cut_word(15, 0, 0, 0, 0),
-        Item::Cjmp(l) => jump_word(1, 0, l, addresses),
-        Item::Label(_) => cut_word(15, 0, 0, 0, 0),
+        Item::Halt => Some(cut_word(0, 0, 0, 0, 0)),
+        Item::Jmp(l) | Item::Cjmp(l) => Some(jump_word(1, 0, l, addresses)),
+        Item::Bnz(rs, l) => Some(jump_word(2, rs, l, addresses)),
+        Item::Load(rd, rs, c) => Some(cut_word(3, rd, rs, 0, c)),
+        Item::Store(rd, c, rs) => Some(cut_word(4, rd, rs, 0, c)),
+        Item::Compute(op, rd, rs, rt) => Some(cut_word(op, rd, rs, rt, 0)),
+        Item::ComputeImmediate(op, rd, rs, i) => Some(immediate_word(op, rd, rs, i)),
+        Item::Cpush(_) | Item::Label(_) => None,
     }
 }
 
-// Writes the word of an item, if it is kept.
-fn put(item: Item, addresses: &[u32], code: &mut [u32], count: u32)
-    requires { count_behind item count ≤ length code.old }
-    ensures { code.new ≡ put_of addresses.now item count code.old }
+// Writes the word of an item, if it is kept, and answers the count of kept items behind it.
+fn put(item: Item, addresses: &[u32; LABELS as usize], code: &mut [u32], count: u32) -> u32
+    requires room { count_behind item count ≤ length code.old }
+    requires small { count < 2 ^ 31 }
+    ensures value { result ≡ count_behind item count }
+    ensures written { code.new ≡ put_of addresses.now item count code.old }
 {
-    if kept(item) {
-        let w = word(item, addresses);
-        code[count as usize] = w;
+    match word(item, addresses) {
+        Some(w) => {
+            code[count as usize] = w;
+            count + 1
+        }
+        None => count,
     }
 }
 
 // Writes the words of the kept items.
-pub fn put_all(numbers: &[u32], addresses: &[u32], code: &mut [u32])
+pub fn put_all(numbers: &[u32], addresses: &[u32; LABELS as usize], code: &mut [u32])
     requires { needed_of (items_in numbers.now) ≤ length code.old }
     ensures { code.new ≡ written_from addresses.now (items_in numbers.now) 0 code.old }
 {
     let place = items_place(numbers);
     let mut at = place + 1;
-    let mut left = count_at(ITEMS, numbers, place);
     let mut count = 0;
-    while 0 < left {
+    // By the iterator over the items this pass is an eighth slower.
+    for _ in 0..count_at(ITEMS, numbers, place) {
         let item = item_at(numbers, at);
-        put(item, addresses, code, count);
-        count = count_behind(item, count);
+        count = put(item, addresses, code, count);
         at = behind_item(numbers, at);
-        left -= 1;
     }
 }

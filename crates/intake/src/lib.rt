@@ -5,98 +5,93 @@
 #![tactic(auto)]
 
 ghost use Rattle.std.specs.Prelude.{◌≡◌, ◌+◌, length};
+ghost use Rattle.intake.specs.Input.{count_in};
 ghost use Rattle.listing.specs.Limits;
 ghost use Rattle.lines.specs.Line.{Front};
 
 use lines::LONGEST;
 use listing::limits::BYTES;
-use std::io::{Read, Write};
+use std::fmt;
+use std::io::{self, Read, Write};
 
 // One byte more than a packet may have: enough to tell that one is too long.
 const MOST: usize = BYTES + 1;
 
-// How many bytes were read, and whether a read failed behind them or their line was not printed.
-#[derive(Clone, Copy)]
-pub struct Input {
-    pub count: usize,
-    pub failed: bool,
+// What a program could not do, and how many bytes it had read then.
+#[derive(Clone, Copy, Debug, PartialEq, Eq)]
+pub enum Failure {
+    Reading(usize),
+    Printing(usize),
 }
 
+impl fmt::Display for Failure {
+    fn fmt<W: fmt::Write>(&self, f: &mut fmt::Formatter<W>) -> fmt::Result {
+        f.write_str(match self {
+            Failure::Reading(_) => "standard input cannot be read",
+            Failure::Printing(_) => "standard output cannot be written",
+        })
+    }
+}
+
+// Room for a packet, and with it a count: there is no heap for a `Vec`.
 pub fn packet_room() -> [u8; MOST]
     ensures { length result ≡ Limits.BYTES + 1 }
 {
     [0; MOST]
 }
 
-// Reads until the input ends, the buffer is full or a read fails.
-fn read_packet(stdin: &mut impl Read, buf: &mut [u8]) -> Input
-    ensures { Front result.count buf.new }
+// Reads until the input ends, the buffer is full or a read fails. No `for` is plainer: how many bytes a turn brings
+// is what `read` answers.
+fn read_packet(stdin: &mut impl Read, buf: &mut [u8]) -> Result<usize, Failure>
+    ensures { Front (count_in result) buf.new }
 {
     let mut count = 0;
     while count < buf.len() {
         match stdin.read(&mut buf[count..]) {
-            Ok(0) => {
-                return Input {
-                    count,
-                    failed: false,
-                };
-            }
+            Ok(0) => return Ok(count),
             Ok(more) => count += more,
-            Err(_) => {
-                return Input {
-                    count,
-                    failed: true,
-                };
-            }
+            Err(_) => return Err(Failure::Reading(count)),
         }
     }
-    Input {
-        count,
-        failed: false,
-    }
+    Ok(count)
 }
 
-// Says on standard error what a program could not do. Where that cannot be written either, nothing is left to say.
-fn complain(stderr: &mut impl Write, program: &[u8], text: &[u8]) {
-    let _ = stderr.write_all(program);
-    let _ = stderr.write_all(text);
-}
-
-// Prints a packet's line, and answers whether it was written.
-fn print_line(
-    stdout: &mut impl Write,
-    stderr: &mut impl Write,
-    packet: &[u8],
-    program: &[u8],
-) -> bool {
+// Prints a packet's line.
+fn print_line(stdout: &mut impl Write, packet: &[u8]) -> io::Result<()> {
     let mut out = [0u8; LONGEST];
     let n = lines::line(packet, &mut out);
-    if stdout.write_all(&out[..n]).is_ok() {
-        return true;
-    }
-    complain(stderr, program, b": standard output cannot be written\n");
-    false
+    stdout.write_all(&out[..n])
 }
 
-// Reads a packet and prints its line.
+fn read_and_print(
+    stdin: &mut impl Read,
+    stdout: &mut impl Write,
+    buf: &mut [u8],
+) -> Result<usize, Failure>
+    ensures { Front (count_in result) buf.new }
+{
+    let count = read_packet(stdin, buf)?;
+    match print_line(stdout, &buf[..count]) {
+        Ok(()) => Ok(count),
+        Err(_) => Err(Failure::Printing(count)),
+    }
+}
+
+// Reads a packet, prints its line, and answers how many bytes were read. What could not be done it says on standard
+// error; where that cannot be written either, nothing is left to say. A program's name may be any bytes, as ever.
 pub fn answer(
     stdin: &mut impl Read,
     stdout: &mut impl Write,
     stderr: &mut impl Write,
     buf: &mut [u8],
     program: &[u8],
-) -> Input
-    ensures { Front result.count buf.new }
+) -> Result<usize, Failure>
+    ensures { Front (count_in result) buf.new }
 {
-    let input = read_packet(stdin, buf);
-    let count = input.count;
-    if input.failed {
-        complain(stderr, program, b": standard input cannot be read\n");
-        return input;
+    let answered = read_and_print(stdin, stdout, buf);
+    if let Err(failure) = answered {
+        let _ = stderr.write_all(program);
+        let _ = writeln!(stderr, ": {failure}");
     }
-    let printed = print_line(stdout, stderr, &buf[..count], program);
-    Input {
-        count,
-        failed: !printed,
-    }
+    answered
 }

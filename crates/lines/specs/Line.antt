@@ -1,7 +1,6 @@
 -- 01: "The checking program .. prints the line `ACCEPTED` or `REFUSED n AT p`, in decimal, with a newline."
 use Rattle.std.specs.Prelude.{ℕ, ◌≤◌, ◌≡◌, List, [], ◌++◌, length, take, drop}
-use Rattle.checker.specs.declared.packets.Checked.{Checked}
-use Rattle.checker.specs.declared.packets.Checked.TheVariants.{Accepted, Refused, NoRoom}
+use Rattle.checker.specs.Checked.{Checked, Accepted, Refused, NoRoom}
 use Rattle.checker.specs.Check.{check_of}
 use Rattle.lines.specs.Text.{bytes_of}
 use Rattle.lines.specs.Decimal.{decimal_of}

@@ -1,16 +1,14 @@
--- Laws of the line for the proofs of its code: `verdicts` for what a packet is, `lines` for the line of a verdict.
+-- Laws of the line for the proofs of its code: `verdicts` for what a packet is; a refusal's line by its parts, and the line of a packet in front of a buffer.
 use Rattle.std.specs.Prelude.{ℕ, ◌+◌, ◌^◌, ◌<◌, ◌≤◌, ◌≡◌, refl, List, ◌++◌, drop}
 use Rattle.std.proofs.Common.{arith, sym, ◌∙◌, append_assoc, length-append, length-take-le}
 use Rattle.std.proofs.Math.Path.{ap}
 use Rattle.std.proofs.Math.ListN.{length}
 use Rattle.std.proofs.lemmas.List.Edits.{sets-eq}
 use Rattle.choice.specs.Pick.{is_less}
-use Rattle.listing.specs.declared.reading.Taken.{Taken}
-use Rattle.listing.specs.declared.reading.Taken.TheVariants.{Fault}
+use Rattle.listing.specs.Taken.{Taken, Fault}
 use Rattle.listing.specs.Limits.{BYTES, TOO_LONG}
 use Rattle.listing.specs.Packet.{taken_of}
-use Rattle.checker.specs.declared.packets.Checked.{Checked}
-use Rattle.checker.specs.declared.packets.Checked.TheVariants.{Accepted, Refused, NoRoom}
+use Rattle.checker.specs.Checked.{Checked, Refused}
 use Rattle.checker.specs.Check.{verdict_in, checked_by, checking_of, check_in, check_of}
 use Rattle.checker.specs.CheckLaws.{check_answer}
 use Rattle.lines.specs.Text.{bytes_of}
@@ -38,34 +36,21 @@ refusal_length n p h k = simp length-append (omega (arith, digits_below 2 n (ome
 
 -- a refusal's line, part by part
 module _ (out out₁ out₂ out₃ : List ℕ) (a₁ a₂ a₃ n p : ℕ) (e₁ : written a₁ out₁ ≡ put_of out 0 (bytes_of "REFUSED " ++ decimal_of n)) (e₂ : written a₂ out₂ ≡ put_of out₁ a₁ (bytes_of " AT " ++ decimal_of p)) (e₃ : written a₃ out₃ ≡ put_of out₂ a₂ (bytes_of "\n")) where
-  pub refusal_put : written a₃ out₃ ≡ put_of out 0 (refusal_of n p)
+  put_parts : written a₃ out₃ ≡ put_of out 0 (refusal_of n p)
   unfolding refusal_of
-  refusal_put =
+  put_parts =
       behind out out₂ out₃ 0 a₂ a₃ (bytes_of "REFUSED " ++ decimal_of n ++ bytes_of " AT " ++ decimal_of p) (bytes_of "\n")
       (behind out out₁ out₂ 0 a₁ a₂ (bytes_of "REFUSED " ++ decimal_of n) (bytes_of " AT " ++ decimal_of p) e₁ e₂
       ∙ ap (put_of out 0) (sym (append_assoc (bytes_of "REFUSED " ++ decimal_of n) (bytes_of " AT ") (decimal_of p))))
       e₃
 
+  pub refusal_put : (number : ℕ) → n ≡ number → written a₃ out₃ ≡ put_of out 0 (refusal_of number p)
+  refusal_put number e = put_parts ∙ ap (λ (m : ℕ). put_of out 0 (refusal_of m p)) e
+
   pub refusal_near : n < 2 ^ 8 → p < 2 ^ 64 → a₃ ≤ LONGEST
   unfolding put_of
   refusal_near h k =
-      let same : a₃ ≡ 0 + length (refusal_of n p) = ap (λ (w : Written). w.end) refusal_put in omega (arith, same, refusal_length n p h k)
-
--- by the verdict
-module _ (out out' : List ℕ) (r : ℕ) (v : Checked) where
-  pub line_accepted : (n : ℕ) → v ≡ Accepted n → written r out' ≡ put_of out 0 (bytes_of "ACCEPTED\n") → written r out' ≡ put_of out 0 (line_of v)
-  unfolding line_of
-  line_accepted n p e = e ∙ ap (λ (x : Checked). put_of out 0 (line_of x)) (sym p)
-
-  pub line_refused : (n place : ℕ) → v ≡ Refused n place → written r out' ≡ put_of out 0 (refusal_of n place) → written r out' ≡ put_of out 0 (line_of v)
-  unfolding line_of
-  line_refused n place p e = e ∙ ap (λ (x : Checked). put_of out 0 (line_of x)) (sym p)
-
-pub line_no_room : (out : List ℕ) (v : Checked) → v ≡ NoRoom → written 0 out ≡ put_of out 0 (line_of v)
-unfolding line_of put_of
-line_no_room out v p = ap (λ (x : Checked). put_of out 0 (line_of x)) (sym p)
-
-pub ruleset lines = (refl, line_accepted, line_refused, line_no_room)
+      let same : a₃ ≡ 0 + length (refusal_of n p) = ap (λ (w : Written). w.end) put_parts in omega (arith, same, refusal_length n p h k)
 
 -- what is put into a buffer from its front, where it fits, stands there
 pub whole_line : (packet out out' : List ℕ) (r : ℕ) (v : Checked) → v ≡ check_of packet → written r out' ≡ put_of out 0 (line_of v) → r ≤ LONGEST → length out ≡ LONGEST

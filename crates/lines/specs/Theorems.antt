@@ -3,17 +3,14 @@ use Rattle.std.specs.Prelude.{ℕ, zero, suc, ◌+◌, ◌-◌, ◌*◌, ◌/◌
 use Rattle.std.proofs.Common.{arith, ◌∙◌}
 use Rattle.choice.specs.Pick.{pick, both, if_less}
 use Rattle.listing.specs.declared.grammar.Wanted.TheVariants.{Edition}
-use Rattle.listing.specs.declared.grammar.Due.{Due}
-use Rattle.listing.specs.declared.grammar.Due.TheVariants.{Next, End, Refused}
-use Rattle.listing.specs.declared.reading.Got.{Got}
-use Rattle.listing.specs.declared.reading.Got.TheVariants.{Took, Bad}
-use Rattle.listing.specs.declared.reading.Taken.{Taken}
-use Rattle.listing.specs.declared.reading.Taken.TheVariants.{Listing, Fault, NoRoom}
+use Rattle.refusals.specs.Refusals.{Verdict}
+use Rattle.listing.specs.Due.{Due, Next, End, Refused}
+use Rattle.listing.specs.Got.{Got, Took, Bad}
+use Rattle.listing.specs.Taken.{Taken, Listing, Fault, NoRoom}
 use Rattle.listing.specs.Limits.{BYTES, LEFT_OVER, TOO_LONG}
 use Rattle.listing.specs.Packet.{got_of, end_of, taken_then, taken_from, taken_of}
-use Rattle.checker.specs.declared.walk.Verdict.{Verdict}
-use Rattle.checker.specs.declared.packets.Checked.{Checked}
-use Rattle.checker.specs.declared.packets.Checked.TheVariants as checked
+use Rattle.checker.specs.Checked.{Checked}
+use Rattle.checker.specs.Checked as checked
 use Rattle.checker.specs.Check.{verdict_in, judged_of, checked_by, check_of}
 use Rattle.lines.specs.Text.{bytes_of}
 use Rattle.lines.specs.Decimal.{digit_of, digits_from, decimal_of}

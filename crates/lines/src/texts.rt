@@ -1,5 +1,6 @@
 // Text put into a buffer from a place on. A byte past the buffer's end is dropped, so that no function here
-// owes that a text fits; `line` owes it once.
+// owes that a text fits; `line` owes it once. Digits are put here and not by `Display`: the contract of `line` names
+// every byte of a fixed buffer, and there is no heap for a text of its own.
 ghost use Rattle.std.specs.Prelude.{◌≡◌, ◌+◌, ◌≤◌, ◌<◌, ◌++◌, length, set};
 ghost use Rattle.lines.specs.Decimal.{decimal_of};
 ghost use Rattle.lines.specs.Line.{written};
@@ -20,11 +21,9 @@ pub fn put_text(out: &mut [u8], at: usize, text: &[u8]) -> usize
     ensures near { result ≡ at + length text.now }
 {
     let mut end = at;
-    let mut i = 0;
-    while i < text.len() {
-        put(out, end, text[i]);
+    for byte in text {
+        put(out, end, *byte);
         end += 1;
-        i += 1;
     }
     end
 }

@@ -9,19 +9,19 @@ use mathlib.Core.List.{List, [], ◌∷◌, ◌++◌}
 use Rattle.std.proofs.Math.ListN.{length, drop}
 use Rattle.std.proofs.Math.Seq.{drop-append_seam}
 use Rattle.choice.specs.Pick.{either, not_less}
-use Rattle.number.specs.declared.Found.{Found}
-use Rattle.number.specs.declared.Found.TheVariants.{Number, Ended, Malformed}
+use Rattle.number.specs.Found.{Found}
+use Rattle.number.specs.Found.{Number, Ended, Malformed}
 use Rattle.number.specs.Number.{read_of}
 use Rattle.number.specs.Encode.{encode_of}
 use Rattle.number.specs.EncodeLaws.{encode_some, encoded_read, read_standing}
 use Rattle.listing.specs.declared.grammar.Wanted.{Wanted}
 use Rattle.listing.specs.declared.grammar.Wanted.TheVariants.{Edition}
-use Rattle.listing.specs.declared.grammar.Due.{Due}
-use Rattle.listing.specs.declared.grammar.Due.TheVariants.{Next, End, Refused}
-use Rattle.listing.specs.declared.reading.Got.{Got}
-use Rattle.listing.specs.declared.reading.Got.TheVariants.{Took, Bad}
-use Rattle.listing.specs.declared.reading.Taken.{Taken}
-use Rattle.listing.specs.declared.reading.Taken.TheVariants.{Listing}
+use Rattle.listing.specs.Due.{Due}
+use Rattle.listing.specs.Due.{Next, End, Refused}
+use Rattle.listing.specs.Got.{Got}
+use Rattle.listing.specs.Got.{Took, Bad}
+use Rattle.listing.specs.Taken.{Taken}
+use Rattle.listing.specs.Taken.{Listing}
 use Rattle.listing.specs.Limits.{BYTES}
 use Rattle.listing.specs.Grammar.{next_of}
 use Rattle.listing.specs.Listing.{Each}

@@ -6,19 +6,19 @@ use mathlib.Core.List.{List, [], ◌++◌, append_assoc}
 use Rattle.std.proofs.Math.ListN.{length}
 use Rattle.std.specs.Prelude.{get_or, drop, ltb}
 use Rattle.choice.specs.Pick.{either, not_less}
-use Rattle.number.specs.declared.Found.{Found}
-use Rattle.number.specs.declared.Found.TheVariants.{Number, Ended, Malformed}
+use Rattle.number.specs.Found.{Found}
+use Rattle.number.specs.Found.{Number, Ended, Malformed}
 use Rattle.number.specs.Number.{read_of}
 use Rattle.number.specs.Encode.{encode_of}
 use Rattle.number.specs.EncodeLaws.{Encoded, encoded_read}
 use Rattle.listing.specs.declared.grammar.Wanted.{Wanted}
 use Rattle.listing.specs.declared.grammar.Wanted.TheVariants.{Edition}
-use Rattle.listing.specs.declared.grammar.Due.{Due}
-use Rattle.listing.specs.declared.grammar.Due.TheVariants.{Next, End, Refused}
-use Rattle.listing.specs.declared.reading.Got.{Got}
-use Rattle.listing.specs.declared.reading.Got.TheVariants.{Took, Bad}
-use Rattle.listing.specs.declared.reading.Taken.{Taken}
-use Rattle.listing.specs.declared.reading.Taken.TheVariants.{Fault}
+use Rattle.listing.specs.Due.{Due}
+use Rattle.listing.specs.Due.{Next, End, Refused}
+use Rattle.listing.specs.Got.{Got}
+use Rattle.listing.specs.Got.{Took, Bad}
+use Rattle.listing.specs.Taken.{Taken}
+use Rattle.listing.specs.Taken.{Fault}
 use Rattle.listing.specs.Limits.{BYTES, LEFT_OVER}
 use Rattle.listing.specs.Grammar.{next_of}
 use Rattle.listing.specs.Fold.{fold_of}

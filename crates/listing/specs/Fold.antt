@@ -1,7 +1,7 @@
 -- 01, "The packet": what is due after a row of numbers, one after the other.
 use Rattle.std.specs.Prelude.{ℕ, List, [], ◌∷◌}
-use Rattle.listing.specs.declared.grammar.Due.{Due}
-use Rattle.listing.specs.declared.grammar.Due.TheVariants.{Next, End, Refused}
+use Rattle.listing.specs.Due.{Due}
+use Rattle.listing.specs.Due.{Next, End, Refused}
 use Rattle.listing.specs.Limits.{LEFT_OVER}
 use Rattle.listing.specs.Grammar.{next_of}
 

@@ -1,10 +1,12 @@
 -- 01, "The packet": the numbers of a packet in order. `Wanted` says which number is due and how much is still to come; `next_of` says what is due after it: the next, nothing more, or that it is refused, with 3 for the edition and else 4.
-use Rattle.std.specs.Prelude.{ℕ, ◌-◌, ltb, eqb}
+use Rattle.std.specs.Prelude.{ℕ, ◌-◌, Result, Ok, Err, ltb, eqb}
 use Rattle.choice.specs.Pick.{pick}
+use Rattle.refusals.specs.declared.Refusal.{Refusal}
+use Rattle.refusals.specs.declared.Refusal.TheVariants.{OutOfRange}
 use Rattle.listing.specs.declared.grammar.Wanted.{Wanted}
 use Rattle.listing.specs.declared.grammar.Wanted.TheVariants.{Edition, ShapeCount, FieldCount, FieldKind, FieldLevel, LabelCount, LabelLevel, StackLength, StackLabel, RegisterCount, RegisterIndex, RegisterKind, RegisterLevel, ItemCount, ItemNumber, OperandLabel, BranchRegister, OperandFirst, OperandSecond, OperandThird}
-use Rattle.listing.specs.declared.grammar.Due.{Due}
-use Rattle.listing.specs.declared.grammar.Due.TheVariants.{Next, End, Refused}
+use Rattle.listing.specs.Due.{Due}
+use Rattle.listing.specs.Due.{Next, End, Refused}
 use Rattle.listing.specs.Limits.{EDITION, SHAPES, FIELDS, LABELS, STACK, REGISTERS, ITEMS, TOP_LEVEL, TOP_PART, TOP_IMMEDIATE, TOP_ITEM, WRONG_EDITION, OUT_OF_RANGE}
 
 -- a number from low to high, or below an end; else it is refused
@@ -13,6 +15,13 @@ within_of n low high after = pick (ltb n low) (Refused OUT_OF_RANGE) (pick (ltb 
 
 unfoldable pub below_of : ℕ → ℕ → Due → Due
 below_of n end after = pick (ltb n end) after (Refused OUT_OF_RANGE)
+
+-- the same as a test alone, which answers why the number is refused
+unfoldable pub outside_of : ℕ → ℕ → ℕ → Result (Unit {0}) Refusal
+outside_of n low high = pick (ltb n low) (Err OutOfRange) (pick (ltb high n) (Err OutOfRange) (Ok tt))
+
+unfoldable pub not_below_of : ℕ → ℕ → Result (Unit {0}) Refusal
+not_below_of n end = pick (ltb n end) (Ok tt) (Err OutOfRange)
 
 -- what is due where n shapes, fields, labels, stack labels, registers or items are still to come
 unfoldable pub shapes_from : ℕ → ℕ → Due

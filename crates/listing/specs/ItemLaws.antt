@@ -7,8 +7,8 @@ use Rattle.std.proofs.Common.{sym, ap, subst, ◌∙◌}
 use Rattle.std.proofs.lemmas.List.{append_cancel_left}
 use Rattle.choice.specs.Pick.{pick, is_less, not_less, not_equal, if_equal, if_less}
 use Rattle.listing.specs.declared.grammar.Wanted.TheVariants.{ItemNumber, OperandLabel, BranchRegister, OperandFirst, OperandSecond, OperandThird}
-use Rattle.listing.specs.declared.grammar.Due.{Due}
-use Rattle.listing.specs.declared.grammar.Due.TheVariants.{Next, End}
+use Rattle.listing.specs.Due.{Due}
+use Rattle.listing.specs.Due.{Next, End}
 use Rattle.listing.specs.declared.items.Item.{Item}
 use Rattle.listing.specs.declared.items.Item.TheVariants.{Halt, Jmp, Bnz, Load, Store, Compute, ComputeImmediate, Cpush, Cjmp, Label}
 use Rattle.listing.specs.Limits.{TOP_ITEM, TOP_PART, TOP_IMMEDIATE}

@@ -1,12 +1,16 @@
 -- What a listing is, and how a packet is read. To believe the reader, read Limits, Grammar and Packet, and for the theorems Listing, Parts, Fold, Bytes and Theorems; the rest are laws.
 pub mod Limits  -- limits and refusals, each named once
+pub mod Due  -- what is due after a number, and as the code answers it
 pub mod Grammar  -- which number is due, and what is due after it
 pub mod GrammarLaws  -- the grammar by what is due, for the proofs of code
+pub mod Got  -- one number that was wanted, and as the code answers it
+pub mod Taken  -- what a packet is, and as the code answers it
 pub mod Packet  -- how a whole packet is read, with the places of refusals 1 to 6
 pub mod PacketLaws  -- one law for each way through the code of the reader
 pub mod TakenLaws  -- what the reader leaves in a buffer, by the packet alone
 pub mod Listing  -- a listing as data, its numbers and its ranges
 pub mod Parts  -- the parts of a listing, read off its numbers
+pub mod Rest  -- the items that are still to come
 pub mod PlaceLaws  -- where the parts stand, for the proofs of code
 pub mod Fold  -- what is due after a row of numbers
 pub mod Sorts  -- how the grammar reads the values of a sort

@@ -5,8 +5,8 @@ use Rattle.std.proofs.Common.{sym, ap, ◌∙◌, append-nil, ltb-true, eqb-true
 use Rattle.choice.specs.Pick.{is_less, is_equal}
 use Rattle.listing.specs.declared.grammar.Wanted.{Wanted}
 use Rattle.listing.specs.declared.grammar.Wanted.TheVariants.{Edition, ShapeCount, FieldCount, FieldKind, FieldLevel, LabelCount, LabelLevel, StackLength, StackLabel, RegisterCount, RegisterIndex, RegisterKind, RegisterLevel, ItemCount, ItemNumber}
-use Rattle.listing.specs.declared.grammar.Due.{Due}
-use Rattle.listing.specs.declared.grammar.Due.TheVariants.{Next, End}
+use Rattle.listing.specs.Due.{Due}
+use Rattle.listing.specs.Due.{Next, End}
 use Rattle.listing.specs.Limits.{EDITION, SHAPES, FIELDS, LABELS, STACK, REGISTERS, ITEMS, TOP_LEVEL, TOP_PART, OUT_OF_RANGE, WRONG_EDITION, LEFT_OVER}
 use Rattle.listing.specs.Listing.{Register, Listing, single, counted, field_numbers, register_numbers, label_numbers, item_numbers, numbers_of, Within, Each, EachAfter, FieldRange, ShapeRange, RegisterRange, LabelRange, ItemRange, Ranges}
 use Rattle.listing.specs.Grammar.{within_of, shapes_from, fields_from, labels_from, stack_from, registers_from, items_from, next_of}

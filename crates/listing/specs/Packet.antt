@@ -1,17 +1,17 @@
 -- 01, "The packet" and "Refusal numbers": how a whole packet is read. 6 first; then number by number, left to right, each number's faults in the order 1, 2, 3 or 4; 5 last.
 use Rattle.std.specs.Prelude.{ℕ, zero, suc, ◌+◌, List, [], ◌∷◌, length, set, ltb}
 use Rattle.choice.specs.Pick.{pick}
-use Rattle.number.specs.declared.Found.{Found}
-use Rattle.number.specs.declared.Found.TheVariants.{Number, Ended, Malformed}
+use Rattle.number.specs.Found.{Found}
+use Rattle.number.specs.Found.{Number, Ended, Malformed}
 use Rattle.number.specs.Number.{read_of}
 use Rattle.listing.specs.declared.grammar.Wanted.{Wanted}
 use Rattle.listing.specs.declared.grammar.Wanted.TheVariants.{Edition}
-use Rattle.listing.specs.declared.grammar.Due.{Due}
-use Rattle.listing.specs.declared.grammar.Due.TheVariants.{Next, End, Refused}
-use Rattle.listing.specs.declared.reading.Got.{Got}
-use Rattle.listing.specs.declared.reading.Got.TheVariants.{Took, Bad}
-use Rattle.listing.specs.declared.reading.Taken.{Taken}
-use Rattle.listing.specs.declared.reading.Taken.TheVariants.{Listing, Fault, NoRoom}
+use Rattle.listing.specs.Due.{Due}
+use Rattle.listing.specs.Due.{Next, End, Refused}
+use Rattle.listing.specs.Got.{Got}
+use Rattle.listing.specs.Got.{Took, Bad}
+use Rattle.listing.specs.Taken.{Taken}
+use Rattle.listing.specs.Taken.{Listing, Fault, NoRoom}
 use Rattle.listing.specs.Limits.{BYTES, ENDED, MALFORMED, LEFT_OVER, TOO_LONG}
 use Rattle.listing.specs.Grammar.{next_of}
 

@@ -1,12 +1,12 @@
--- Where the parts of a listing stand among its numbers: how far each place lies at most, and the turns of the loops that find them. `places` holds the laws for a search.
-use Prim.Native.Nat.{ℕ, suc, ◌+◌, ◌-◌, ◌*◌, ◌≤◌, ◌<◌}
+-- Where the parts of a listing stand among its numbers: how far each place lies at most, and one part more.
+use Prim.Native.Nat.{ℕ, zero, suc, ◌+◌, ◌*◌, ◌≤◌}
 use native.Mathlib.Omega.{arith}
-use Rattle.std.specs.Prelude.{◌≡◌, List}
-use Rattle.std.proofs.Math.Path.{sym, ap}
-use Rattle.std.proofs.Common.{subst, ◌∙◌}
+use Rattle.std.specs.Prelude.{◌≡◌}
+use Rattle.std.proofs.Math.Path.{refl, sym}
+use Rattle.std.proofs.Common.{subst, add-one}
 use Rattle.choice.specs.Pick.{both, if_less}
 use Rattle.listing.specs.Limits.{SHAPES, FIELDS, LABELS, STACK, REGISTERS, ITEMS}
-use Rattle.listing.specs.Parts.{behind, count_of, count_at, size_of, behind_shape, behind_label, labels_place, items_place}
+use Rattle.listing.specs.Parts.{behind, count_of, size_of}
 
 -- the most numbers of a shape, a label and an item
 abbrev pub SHAPE_NUMBERS : ℕ
@@ -40,26 +40,11 @@ size_held n r e =
     let Held : ℕ → Type 0 = λ x. x ≤ ITEM_NUMBERS in
     subst Held (sym e) (both Held _ _ _ (omega arith) (both Held _ _ _ (omega arith) (both Held _ _ _ (omega arith) (both Held _ _ _ (omega arith) (omega arith)))))
 
--- a loop that goes from part to part: the whole place is the place behind what is left, and lies no further than the top
-abbrev pub Ahead : ℕ → (ℕ → ℕ) → ℕ → ℕ → ℕ → ℕ → Type 0
-Ahead whole next size top at left = (whole ≡ behind next at left) × (at + size * left ≤ top)
+-- the place behind one part more
+last_part : (next : ℕ → ℕ) (at n : ℕ) → behind next at (suc n) ≡ next (behind next at n)
+unfolding behind
+last_part next at zero = refl
+last_part next at (suc n) = last_part next (next at) n
 
-module _ (whole : ℕ) (next : ℕ → ℕ) (at left : ℕ) (inv : whole ≡ behind next at left) where
-  pub place_turn : (n : ℕ) → 0 < left → n ≡ next at → whole ≡ behind next n (left - 1)
-  unfolding behind
-  place_turn n h e = let more : left ≡ suc (left - 1) = omega arith in inv ∙ ap (behind next at) more ∙ ap (λ (p : ℕ). behind next p (left - 1)) (sym e)
-
-  pub place_end : left ≤ 0 → at ≡ whole
-  unfolding behind
-  place_end h = let none : left ≡ 0 = omega arith in sym (inv ∙ ap (behind next at) none)
-
--- where the loops begin
-pub labels_begin : (ns : List ℕ) (n : ℕ) → n ≡ count_at SHAPES ns 1 → labels_place ns ≡ behind (behind_shape ns) 2 n
-unfolding labels_place
-labels_begin ns n e = ap (behind (behind_shape ns) 2) (sym e)
-
-pub items_begin : (ns : List ℕ) (place n : ℕ) → place ≡ labels_place ns → n ≡ count_at LABELS ns place → items_place ns ≡ behind (behind_label ns) (place + 1) n
-unfolding items_place
-items_begin ns place n p e = rw (← p) (ap (behind (behind_label ns) (place + 1)) (sym e))
-
-pub ruleset places = (place_turn, place_end, labels_begin, items_begin)
+pub behind_more : (next : ℕ → ℕ) (at n : ℕ) → behind next at (n + 1) ≡ next (behind next at n)
+behind_more next at n = rw add-one (last_part next at n)

@@ -7,8 +7,8 @@ use Rattle.std.proofs.Common.{sym, ap, subst, ◌∙◌, ltb-true, ltb-false}
 use mathlib.Core.List.{List, [], ◌∷◌, ◌++◌, flat_map, append_assoc, head-eq_of_cons-eq, tail-eq_of_cons-eq}
 use Rattle.choice.specs.Pick.{pick, is_less, not_less, is_equal, not_equal}
 use Rattle.listing.specs.declared.grammar.Wanted.{Wanted}
-use Rattle.listing.specs.declared.grammar.Due.{Due}
-use Rattle.listing.specs.declared.grammar.Due.TheVariants.{Next, End, Refused}
+use Rattle.listing.specs.Due.{Due}
+use Rattle.listing.specs.Due.{Next, End, Refused}
 use Rattle.listing.specs.Limits.{OUT_OF_RANGE}
 use Rattle.listing.specs.Listing.{counted, single, Within, EachAfter}
 use Rattle.listing.specs.Grammar.{within_of, below_of, next_of}

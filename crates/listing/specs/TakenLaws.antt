@@ -8,12 +8,12 @@ use Rattle.std.proofs.lemmas.List.Edits.{sets, sets-eq}
 use Rattle.std.proofs.Math.Seq.{take_at}
 use Rattle.choice.specs.Pick.{both, not_less}
 use Rattle.listing.specs.declared.grammar.Wanted.TheVariants.{Edition}
-use Rattle.listing.specs.declared.grammar.Due.{Due}
-use Rattle.listing.specs.declared.grammar.Due.TheVariants.{Next, End, Refused}
-use Rattle.listing.specs.declared.reading.Got.{Got}
-use Rattle.listing.specs.declared.reading.Got.TheVariants.{Took, Bad}
-use Rattle.listing.specs.declared.reading.Taken.{Taken}
-use Rattle.listing.specs.declared.reading.Taken.TheVariants.{Listing, Fault, NoRoom}
+use Rattle.listing.specs.Due.{Due}
+use Rattle.listing.specs.Due.{Next, End, Refused}
+use Rattle.listing.specs.Got.{Got}
+use Rattle.listing.specs.Got.{Took, Bad}
+use Rattle.listing.specs.Taken.{Taken}
+use Rattle.listing.specs.Taken.{Listing, Fault, NoRoom}
 use Rattle.listing.specs.Limits.{BYTES}
 use Rattle.listing.specs.Packet.{Reading, reading_of, got_of, end_of, stored_then, packet_from, packet_of, numbers_then, numbers_from, taken_then, taken_from, numbers_in, taken_of}
 use Rattle.listing.specs.PacketLaws.{Behind, got_placed}

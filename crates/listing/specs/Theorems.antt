@@ -2,8 +2,8 @@
 use Rattle.std.specs.Prelude.{ℕ, ◌<◌, ◌≤◌, ◌≡◌, List, length, get_or}
 use Rattle.std.proofs.Common.{sym, ap, subst, ◌∙◌}
 use Rattle.listing.specs.declared.grammar.Wanted.TheVariants.{Edition}
-use Rattle.listing.specs.declared.grammar.Due.TheVariants.{Next}
-use Rattle.listing.specs.declared.reading.Taken.TheVariants as taken
+use Rattle.listing.specs.Due.{Next}
+use Rattle.listing.specs.Taken as taken
 use Rattle.listing.specs.Limits.{BYTES}
 use Rattle.listing.specs.Listing.{Listing, numbers_of, Ranges}
 use Rattle.listing.specs.Parts.{listing_in}

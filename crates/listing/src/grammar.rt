@@ -1,17 +1,19 @@
 // Which number is due, and what is due after it. The grammar knows nothing of bytes or buffers, so a
 // reader of pieces and a writer can go by it too.
 ghost use Rattle.std.specs.Prelude.{◌≡◌};
-ghost use Rattle.listing.specs.Grammar.{next_of, within_of, below_of, shapes_from, fields_from, labels_from, stack_from, registers_from, items_from, operands_from};
+ghost use Rattle.listing.specs.Due.{Next, due_of, due_in};
+ghost use Rattle.listing.specs.Grammar.{next_of, outside_of, not_below_of, shapes_from, fields_from, labels_from, stack_from, registers_from, items_from, operands_from};
 
 use crate::limits::{
-    EDITION, FIELDS, ITEMS, LABELS, OUT_OF_RANGE, REGISTERS, SHAPES, STACK, TOP_IMMEDIATE,
-    TOP_ITEM, TOP_LEVEL, TOP_PART, WRONG_EDITION,
+    EDITION, FIELDS, ITEMS, LABELS, REGISTERS, SHAPES, STACK, TOP_IMMEDIATE, TOP_ITEM, TOP_LEVEL,
+    TOP_PART,
 };
+use refusals::Refusal;
 
 // The number that is due, and what its range and the numbers behind it go by: the counts of shapes and
 // labels, to which kinds and labels are held; `more`, the shapes, labels or items that are still to
 // come after this one; and the parts of this one that are still to come after the one due.
-#[derive(Clone, Copy)]
+#[derive(Clone, Copy, Debug, PartialEq, Eq)]
 pub enum Wanted {
     Edition,
     ShapeCount,
@@ -49,209 +51,205 @@ pub enum Wanted {
     OperandThird(u32, u32, u32),
 }
 
-// What is due: a number, nothing more, or nothing because the number before was refused.
-#[derive(Clone, Copy)]
-pub enum Due {
-    Next(Wanted),
-    End,
-    Refused(u8),
-}
+// A number must be from low to high, or below an end.
 
-fn within(n: u32, low: u32, high: u32, after: Due) -> Due
-    ensures { result ≡ within_of n low high after }
+#[tactic(auto, unfolding(crate::specs::Grammar::outside_of, choice::specs::Pick::pick))]
+fn within(n: u32, low: u32, high: u32) -> Result<(), Refusal>
+    ensures { result ≡ outside_of n low high }
 {
     if n < low {
-        Due::Refused(OUT_OF_RANGE)
+        Err(Refusal::OutOfRange)
     } else if high < n {
-        Due::Refused(OUT_OF_RANGE)
+        Err(Refusal::OutOfRange)
     } else {
-        after
+        Ok(())
     }
 }
 
-fn below(n: u32, end: u32, after: Due) -> Due
-    ensures { result ≡ below_of n end after }
+#[tactic(auto, unfolding(crate::specs::Grammar::not_below_of, choice::specs::Pick::pick))]
+fn below(n: u32, end: u32) -> Result<(), Refusal>
+    ensures { result ≡ not_below_of n end }
 {
     if n < end {
-        after
+        Ok(())
     } else {
-        Due::Refused(OUT_OF_RANGE)
+        Err(Refusal::OutOfRange)
     }
 }
 
-// What is due where n shapes, fields, labels, stack labels, registers or items are still to come.
+// The number that is due where n shapes, fields, labels, stack labels, registers or items are still to
+// come; behind the items nothing is.
 
-fn shapes_from(shapes: u32, n: u32) -> Due
-    ensures { result ≡ shapes_from shapes n }
+#[tactic(auto, unfolding(crate::specs::Grammar::shapes_from, choice::specs::Pick::pick))]
+fn shapes_from(shapes: u32, n: u32) -> Wanted
+    ensures { Next result ≡ shapes_from shapes n }
 {
     if n == 0 {
-        Due::Next(Wanted::LabelCount(shapes))
+        Wanted::LabelCount(shapes)
     } else {
-        Due::Next(Wanted::FieldCount(shapes, n - 1))
+        Wanted::FieldCount(shapes, n - 1)
     }
 }
 
-fn fields_from(shapes: u32, more: u32, n: u32) -> Due
-    ensures { result ≡ fields_from shapes more n }
+#[tactic(auto, unfolding(crate::specs::Grammar::fields_from, choice::specs::Pick::pick))]
+fn fields_from(shapes: u32, more: u32, n: u32) -> Wanted
+    ensures { Next result ≡ fields_from shapes more n }
 {
     if n == 0 {
         shapes_from(shapes, more)
     } else {
-        Due::Next(Wanted::FieldKind(shapes, more, n - 1))
+        Wanted::FieldKind(shapes, more, n - 1)
     }
 }
 
-fn labels_from(shapes: u32, labels: u32, n: u32) -> Due
-    ensures { result ≡ labels_from shapes labels n }
+#[tactic(auto, unfolding(crate::specs::Grammar::labels_from, choice::specs::Pick::pick))]
+fn labels_from(shapes: u32, labels: u32, n: u32) -> Wanted
+    ensures { Next result ≡ labels_from shapes labels n }
 {
     if n == 0 {
-        Due::Next(Wanted::ItemCount(labels))
+        Wanted::ItemCount(labels)
     } else {
-        Due::Next(Wanted::LabelLevel(shapes, labels, n - 1))
+        Wanted::LabelLevel(shapes, labels, n - 1)
     }
 }
 
-fn stack_from(shapes: u32, labels: u32, more: u32, n: u32) -> Due
-    ensures { result ≡ stack_from shapes labels more n }
+#[tactic(auto, unfolding(crate::specs::Grammar::stack_from, choice::specs::Pick::pick))]
+fn stack_from(shapes: u32, labels: u32, more: u32, n: u32) -> Wanted
+    ensures { Next result ≡ stack_from shapes labels more n }
 {
     if n == 0 {
-        Due::Next(Wanted::RegisterCount(shapes, labels, more))
+        Wanted::RegisterCount(shapes, labels, more)
     } else {
-        Due::Next(Wanted::StackLabel(shapes, labels, more, n - 1))
+        Wanted::StackLabel(shapes, labels, more, n - 1)
     }
 }
 
-fn registers_from(shapes: u32, labels: u32, more: u32, n: u32, last: u32) -> Due
-    ensures { result ≡ registers_from shapes labels more n last }
+#[tactic(auto, unfolding(crate::specs::Grammar::registers_from, choice::specs::Pick::pick))]
+fn registers_from(shapes: u32, labels: u32, more: u32, n: u32, last: u32) -> Wanted
+    ensures { Next result ≡ registers_from shapes labels more n last }
 {
     if n == 0 {
         labels_from(shapes, labels, more)
     } else {
-        Due::Next(Wanted::RegisterIndex(shapes, labels, more, n - 1, last))
+        Wanted::RegisterIndex(shapes, labels, more, n - 1, last)
     }
 }
 
-fn items_from(labels: u32, n: u32) -> Due
-    ensures { result ≡ items_from labels n }
+#[tactic(auto, unfolding(crate::specs::Grammar::items_from, choice::specs::Pick::pick))]
+fn items_from(labels: u32, n: u32) -> Option<Wanted>
+    ensures { due_of result ≡ items_from labels n }
 {
     if n == 0 {
-        Due::End
+        None
     } else {
-        Due::Next(Wanted::ItemNumber(labels, n - 1))
+        Some(Wanted::ItemNumber(labels, n - 1))
     }
 }
 
 // The operands of an item number.
-fn operands_from(labels: u32, more: u32, item: u32) -> Due
-    ensures { result ≡ operands_from labels more item }
+#[tactic(auto, unfolding(crate::specs::Grammar::operands_from, choice::specs::Pick::pick))]
+fn operands_from(labels: u32, more: u32, item: u32) -> Option<Wanted>
+    ensures { due_of result ≡ operands_from labels more item }
 {
     match item {
         0 => items_from(labels, more),
-        1 => Due::Next(Wanted::OperandLabel(labels, more)),
-        2 => Due::Next(Wanted::BranchRegister(labels, more)),
-        3..=9 => Due::Next(Wanted::OperandFirst(labels, more, TOP_PART)),
-        10..=14 => Due::Next(Wanted::OperandFirst(labels, more, TOP_IMMEDIATE)),
-        _ => Due::Next(Wanted::OperandLabel(labels, more)),
+        1 => Some(Wanted::OperandLabel(labels, more)),
+        2 => Some(Wanted::BranchRegister(labels, more)),
+        3..=9 => Some(Wanted::OperandFirst(labels, more, TOP_PART)),
+        10..=14 => Some(Wanted::OperandFirst(labels, more, TOP_IMMEDIATE)),
+        _ => Some(Wanted::OperandLabel(labels, more)),
     }
 }
 
-// What is due after the number n, or that n is refused.
-pub fn next(wanted: Wanted, n: u32) -> Due
-    ensures { result ≡ next_of wanted n }
+// What is due after the number n, nothing more where None; or why n is refused.
+#[tactic(auto, using(crate::specs::GrammarLaws::dues))]
+pub fn next(wanted: Wanted, n: u32) -> Result<Option<Wanted>, Refusal>
+    ensures { due_in result ≡ next_of wanted n }
 {
     match wanted {
-        Wanted::Edition => if n == EDITION {
-            Due::Next(Wanted::ShapeCount)
-        } else {
-            Due::Refused(WRONG_EDITION)
-        },
-        Wanted::ShapeCount => within(n, 0, SHAPES, shapes_from(n, n)),
-        Wanted::FieldCount(shapes, more) => within(n, 1, FIELDS, fields_from(shapes, more, n)),
-        Wanted::FieldKind(shapes, more, fields) => within(
-            n,
-            0,
-            shapes,
-            Due::Next(Wanted::FieldLevel(shapes, more, fields)),
-        ),
-        Wanted::FieldLevel(shapes, more, fields) => within(
-            n,
-            0,
-            TOP_LEVEL,
-            fields_from(shapes, more, fields),
-        ),
-        Wanted::LabelCount(shapes) => within(n, 1, LABELS, labels_from(shapes, n, n)),
-        Wanted::LabelLevel(shapes, labels, more) => within(
-            n,
-            0,
-            TOP_LEVEL,
-            Due::Next(Wanted::StackLength(shapes, labels, more)),
-        ),
-        Wanted::StackLength(shapes, labels, more) => within(
-            n,
-            0,
-            STACK,
-            stack_from(shapes, labels, more, n),
-        ),
-        Wanted::StackLabel(shapes, labels, more, stack) => below(
-            n,
-            labels,
-            stack_from(shapes, labels, more, stack),
-        ),
-        Wanted::RegisterCount(shapes, labels, more) => within(
-            n,
-            0,
-            REGISTERS,
-            registers_from(shapes, labels, more, n, 0),
-        ),
-        Wanted::RegisterIndex(shapes, labels, more, registers, last) => {
-            if last < n {
-                within(
-                    n,
-                    1,
-                    TOP_PART,
-                    Due::Next(Wanted::RegisterKind(shapes, labels, more, registers, n)),
-                )
+        Wanted::Edition => {
+            if n == EDITION {
+                Ok(Some(Wanted::ShapeCount))
             } else {
-                Due::Refused(OUT_OF_RANGE)
+                Err(Refusal::WrongEdition)
             }
         }
+        Wanted::ShapeCount => {
+            within(n, 0, SHAPES)?;
+            Ok(Some(shapes_from(n, n)))
+        }
+        Wanted::FieldCount(shapes, more) => {
+            within(n, 1, FIELDS)?;
+            Ok(Some(fields_from(shapes, more, n)))
+        }
+        Wanted::FieldKind(shapes, more, fields) => {
+            within(n, 0, shapes)?;
+            Ok(Some(Wanted::FieldLevel(shapes, more, fields)))
+        }
+        Wanted::FieldLevel(shapes, more, fields) => {
+            within(n, 0, TOP_LEVEL)?;
+            Ok(Some(fields_from(shapes, more, fields)))
+        }
+        Wanted::LabelCount(shapes) => {
+            within(n, 1, LABELS)?;
+            Ok(Some(labels_from(shapes, n, n)))
+        }
+        Wanted::LabelLevel(shapes, labels, more) => {
+            within(n, 0, TOP_LEVEL)?;
+            Ok(Some(Wanted::StackLength(shapes, labels, more)))
+        }
+        Wanted::StackLength(shapes, labels, more) => {
+            within(n, 0, STACK)?;
+            Ok(Some(stack_from(shapes, labels, more, n)))
+        }
+        Wanted::StackLabel(shapes, labels, more, stack) => {
+            below(n, labels)?;
+            Ok(Some(stack_from(shapes, labels, more, stack)))
+        }
+        Wanted::RegisterCount(shapes, labels, more) => {
+            within(n, 0, REGISTERS)?;
+            Ok(Some(registers_from(shapes, labels, more, n, 0)))
+        }
+        Wanted::RegisterIndex(shapes, labels, more, registers, last) => {
+            below(last, n)?;
+            within(n, 1, TOP_PART)?;
+            Ok(Some(Wanted::RegisterKind(shapes, labels, more, registers, n)))
+        }
         Wanted::RegisterKind(shapes, labels, more, registers, last) => {
-            within(
-                n,
-                0,
-                shapes,
-                Due::Next(Wanted::RegisterLevel(shapes, labels, more, registers, last)),
-            )
+            within(n, 0, shapes)?;
+            Ok(Some(Wanted::RegisterLevel(shapes, labels, more, registers, last)))
         }
         Wanted::RegisterLevel(shapes, labels, more, registers, last) => {
-            within(
-                n,
-                0,
-                TOP_LEVEL,
-                registers_from(shapes, labels, more, registers, last),
-            )
+            within(n, 0, TOP_LEVEL)?;
+            Ok(Some(registers_from(shapes, labels, more, registers, last)))
         }
-        Wanted::ItemCount(labels) => within(n, 1, ITEMS, items_from(labels, n)),
-        Wanted::ItemNumber(labels, more) => within(n, 0, TOP_ITEM, operands_from(labels, more, n)),
-        Wanted::OperandLabel(labels, more) => below(n, labels, items_from(labels, more)),
-        Wanted::BranchRegister(labels, more) => within(
-            n,
-            0,
-            TOP_PART,
-            Due::Next(Wanted::OperandLabel(labels, more)),
-        ),
-        Wanted::OperandFirst(labels, more, high) => within(
-            n,
-            0,
-            TOP_PART,
-            Due::Next(Wanted::OperandSecond(labels, more, high)),
-        ),
-        Wanted::OperandSecond(labels, more, high) => within(
-            n,
-            0,
-            TOP_PART,
-            Due::Next(Wanted::OperandThird(labels, more, high)),
-        ),
-        Wanted::OperandThird(labels, more, high) => within(n, 0, high, items_from(labels, more)),
+        Wanted::ItemCount(labels) => {
+            within(n, 1, ITEMS)?;
+            Ok(items_from(labels, n))
+        }
+        Wanted::ItemNumber(labels, more) => {
+            within(n, 0, TOP_ITEM)?;
+            Ok(operands_from(labels, more, n))
+        }
+        Wanted::OperandLabel(labels, more) => {
+            below(n, labels)?;
+            Ok(items_from(labels, more))
+        }
+        Wanted::BranchRegister(labels, more) => {
+            within(n, 0, TOP_PART)?;
+            Ok(Some(Wanted::OperandLabel(labels, more)))
+        }
+        Wanted::OperandFirst(labels, more, high) => {
+            within(n, 0, TOP_PART)?;
+            Ok(Some(Wanted::OperandSecond(labels, more, high)))
+        }
+        Wanted::OperandSecond(labels, more, high) => {
+            within(n, 0, TOP_PART)?;
+            Ok(Some(Wanted::OperandThird(labels, more, high)))
+        }
+        Wanted::OperandThird(labels, more, high) => {
+            within(n, 0, high)?;
+            Ok(items_from(labels, more))
+        }
     }
 }

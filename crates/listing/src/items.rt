@@ -3,7 +3,7 @@ ghost use Rattle.std.specs.Prelude.{◌≡◌, ◌≤◌, get_or};
 ghost use Rattle.listing.specs.Parts.{item_of, item_at, size_of, count_of};
 
 // An item, its operands in the packet's order.
-#[derive(Clone, Copy)]
+#[derive(Clone, Copy, Debug, PartialEq, Eq)]
 pub enum Item {
     Halt,
     // L
@@ -14,7 +14,8 @@ pub enum Item {
     Load(u32, u32, u32),
     // rd, c, rs
     Store(u32, u32, u32),
-    // the item number, 5 to 9 for add, sub, and, xor, slt; rd, rs, rt
+    // the item number, 5 to 9 for add, sub, and, xor, slt; rd, rs, rt. The number itself, since the
+    // packet has it, the code word is made of it, and ItemRange holds it to these
     Compute(u32, u32, u32, u32),
     // the item number, 10 to 14 for the same; rd, rs, and the packet's number, 32,768 more than the
     // immediate
@@ -29,18 +30,20 @@ pub enum Item {
 pub fn number_at(numbers: &[u32], at: usize) -> u32
     ensures { result ≡ get_or numbers.now at 0 }
 {
-    if at < numbers.len() { numbers[at] } else { 0 }
+    numbers.get(at).copied().unwrap_or(0)
 }
 
 // A count, or its limit where that is less.
+#[tactic(auto, unfolding(crate::specs::Parts::count_of, choice::specs::Pick::pick))]
 pub fn at_most(limit: u32, n: u32) -> u32
     ensures value { result ≡ count_of limit n }
     ensures held { result ≤ limit }
 {
-    if limit < n { limit } else { n }
+    n.min(limit)
 }
 
 // The item of a number and of operands.
+#[tactic(auto, unfolding(crate::specs::Parts::item_of, choice::specs::Pick::pick))]
 fn item_of(n: u32, a: u32, b: u32, c: u32) -> Item
     ensures { result ≡ item_of n a b c }
 {
@@ -72,6 +75,7 @@ pub fn item_at(numbers: &[u32], at: u32) -> Item
 }
 
 // How many numbers an item is.
+#[tactic(auto, unfolding(crate::specs::Parts::size_of, choice::specs::Pick::pick))]
 pub fn item_size(n: u32) -> u32
     ensures { result ≡ size_of n }
 {

@@ -3,13 +3,20 @@
 
 #![tactic(auto)]
 
+mod each;
 mod grammar;
 mod items;
 pub mod limits;
 mod places;
 mod reading;
+mod rest;
 
-pub use grammar::{Due, Wanted, next};
+pub use each::each_item;
+pub use grammar::{Wanted, next};
 pub use items::{Item, at_most, item_at, item_size, number_at};
-pub use places::{behind_item, behind_label, behind_shape, count_at, items_place, labels_place};
-pub use reading::{Taken, read};
+pub use places::{
+    Items, Labels, Part, Shapes, behind_all, behind_item, behind_label, behind_shape, count_at,
+    items_place, labels_place,
+};
+pub use reading::{ReadError, read};
+pub use rest::Rest;

@@ -24,16 +24,3 @@ pub const TOP_PART: u32 = 15;
 pub const TOP_IMMEDIATE: u32 = 65535;
 
 pub const TOP_ITEM: u32 = 17;
-
-// The reader's refusals.
-pub const ENDED: u8 = 1;
-
-pub const MALFORMED: u8 = 2;
-
-pub const WRONG_EDITION: u8 = 3;
-
-pub const OUT_OF_RANGE: u8 = 4;
-
-pub const LEFT_OVER: u8 = 5;
-
-pub const TOO_LONG: u8 = 6;

@@ -1,103 +1,118 @@
 // The whole reader: a packet's numbers, one after the other, by the grammar.
-ghost use Rattle.std.specs.Prelude.{◌≡◌, ◌+◌, ◌≤◌, length};
+ghost use Rattle.std.specs.Prelude.{Err, ◌≡◌, ◌+◌, ◌≤◌, length};
 ghost use Rattle.listing.specs.declared.grammar.Wanted.TheVariants.{Edition};
-ghost use Rattle.listing.specs.declared.grammar.Due.TheVariants.{Next};
-ghost use Rattle.listing.specs.Packet.{got_of, due_then, end_of, reading_of, packet_from, packet_of};
+ghost use Rattle.listing.specs.declared.reading.ReadError.TheVariants.{Refused};
+ghost use Rattle.number.specs.Found.{found_in};
+ghost use Rattle.number.specs.Number.{refusal_of, place_of};
+ghost use Rattle.refusals.specs.Refusals.{number_of};
+ghost use Rattle.listing.specs.Due.{Next};
+ghost use Rattle.listing.specs.Got.{got_in};
+ghost use Rattle.listing.specs.Taken.{taken_in};
+ghost use Rattle.listing.specs.Packet.{got_of, reading_of, packet_from, packet_of};
 
-use crate::grammar::{Due, Wanted, next};
-use crate::limits::{BYTES, ENDED, LEFT_OVER, MALFORMED, TOO_LONG};
-use number::Found;
+use crate::grammar::{Wanted, next};
+use crate::limits::BYTES;
+use number::NumberError;
+use refusals::{Fault, Refusal};
 
-// What a packet is: a listing of so many numbers, or a fault with its refusal's number and place; or
-// there is less room for its numbers than it has bytes.
-#[derive(Clone, Copy)]
-pub enum Taken {
-    Listing(usize),
-    Fault(u8, usize),
+// Why a packet is not read: a fault, or there is less room for its numbers than it has bytes.
+#[derive(Clone, Copy, Debug, PartialEq, Eq)]
+pub enum ReadError {
+    Refused(Fault),
     NoRoom,
 }
 
-// One number that was wanted, with the place behind it and what is due then; or the fault there.
-#[derive(Clone, Copy)]
-pub enum Got {
-    Took(u32, usize, Due),
-    Bad(u8, usize),
+impl From<Fault> for ReadError {
+    ghost from_gives = { λ fault e. e ≡ Refused fault };
+
+    fn from(fault: Fault) -> ReadError {
+        ReadError::Refused(fault)
+    }
 }
 
-// A number that stands at a place, by what is due after it.
-fn due_then(due: Due, v: u32, at: usize, behind: usize) -> Got
-    ensures { result ≡ due_then due v at behind }
+// A number that was wanted, the place behind it, and what is due there.
+#[derive(Clone, Copy)]
+struct Step {
+    value: u32,
+    behind: usize,
+    due: Option<Wanted>,
+}
+
+// The fault where no number stands: at the packet's end, or where the number begins.
+fn no_number(error: NumberError, packet: &[u8]) -> Fault
+    ensures refusal { number_of result.refusal ≡ refusal_of packet.now (found_in (Err error)) }
+    ensures place { result.place ≡ place_of packet.now (found_in (Err error)) }
 {
-    match due {
-        Due::Next(wanted) => Got::Took(v, behind, Due::Next(wanted)),
-        Due::End => Got::Took(v, behind, Due::End),
-        Due::Refused(k) => Got::Bad(k, at),
+    match error {
+        NumberError::Ended => Fault {
+            refusal: Refusal::Ended,
+            place: packet.len(),
+        },
+        NumberError::Malformed(place) => Fault {
+            refusal: Refusal::Malformed,
+            place,
+        },
     }
 }
 
 // The number that is wanted at a place of the packet.
-fn get(packet: &[u8], at: usize, wanted: Wanted) -> Got
-    ensures { result ≡ got_of packet.now at wanted }
+#[tactic(auto, using(crate::specs::PacketLaws::gets))]
+fn get(packet: &[u8], at: usize, wanted: Wanted) -> Result<Step, Fault>
+    ensures { got_in result ≡ got_of packet.now at wanted }
 {
-    match number::read(packet, at) {
-        Found::Number(v, behind) => due_then(next(wanted, v), v, at, behind),
-        Found::Ended => Got::Bad(ENDED, packet.len()),
-        Found::Malformed(place) => Got::Bad(MALFORMED, place),
-    }
-}
-
-// Where nothing more is due: bytes left over are a fault.
-fn end(len: usize, at: usize, count: usize) -> Taken
-    ensures { result ≡ end_of len at count }
-{
-    if at < len {
-        Taken::Fault(LEFT_OVER, at)
-    } else {
-        Taken::Listing(count)
-    }
+    // By map_err and ? a whole packet takes twice the time: the number is then read back from the stack.
+    let number = match number::read(packet, at) {
+        Ok(number) => number,
+        Err(error) => return Err(no_number(error, packet)),
+    };
+    let due = next(wanted, number.value).map_err(|refusal| Fault { refusal, place: at })?;
+    Ok(Step {
+        value: number.value,
+        behind: number.behind,
+        due,
+    })
 }
 
 // Reads number by number until the packet is whole or faulty.
-fn read_numbers(packet: &[u8], numbers: &mut [u32]) -> Taken
+#[tactic(auto, using(crate::specs::PacketLaws::turns))]
+fn read_numbers(packet: &[u8], numbers: &mut [u32]) -> Result<usize, ReadError>
     requires { length packet.now ≤ length numbers.old }
-    ensures { reading_of result numbers.new ≡ packet_from (length packet.now + 1) packet.now (Next Edition) 0 numbers.old 0 }
+    ensures { reading_of (taken_in result) numbers.new ≡ packet_from (length packet.now + 1) packet.now (Next Edition) 0 numbers.old 0 }
 {
-    let mut due = Due::Next(Wanted::Edition);
+    // The count is the answer too, and numbers come until none is due: an iterator is no plainer.
+    let mut due = Some(Wanted::Edition);
     let mut at = 0;
     let mut count = 0;
-    loop {
-        match due {
-            Due::Next(wanted) => match get(packet, at, wanted) {
-                Got::Took(v, behind, then) => {
-                    numbers[count] = v;
-                    count += 1;
-                    at = behind;
-                    due = then;
-                }
-                Got::Bad(k, place) => {
-                    return Taken::Fault(k, place);
-                }
-            },
-            Due::End => {
-                return end(packet.len(), at, count);
-            }
-            Due::Refused(k) => {
-                return Taken::Fault(k, at);
-            }
-        }
+    while let Some(wanted) = due {
+        let step = get(packet, at, wanted)?;
+        numbers[count] = step.value;
+        count += 1;
+        at = step.behind;
+        due = step.due;
     }
+    if at < packet.len() {
+        return Err(ReadError::Refused(Fault {
+            refusal: Refusal::LeftOver,
+            place: at,
+        }));
+    }
+    Ok(count)
 }
 
-// Reads a packet into numbers. Where it answers NoRoom or 6, nothing is written; else the numbers
-// taken so far stand in front.
-pub fn read(packet: &[u8], numbers: &mut [u32]) -> Taken
-    ensures { reading_of result numbers.new ≡ packet_of packet.now numbers.old }
+// Reads a packet into numbers, and answers how many they are. Where there is no room or the packet is
+// too long, nothing is written; else the numbers taken so far stand in front.
+#[tactic(auto, using(crate::specs::PacketLaws::calls))]
+pub fn read(packet: &[u8], numbers: &mut [u32]) -> Result<usize, ReadError>
+    ensures { reading_of (taken_in result) numbers.new ≡ packet_of packet.now numbers.old }
 {
     if BYTES < packet.len() {
-        return Taken::Fault(TOO_LONG, 0);
+        return Err(ReadError::Refused(Fault {
+            refusal: Refusal::TooLong,
+            place: 0,
+        }));
     }
     if numbers.len() < packet.len() {
-        return Taken::NoRoom;
+        return Err(ReadError::NoRoom);
     }
     read_numbers(packet, numbers)
 }

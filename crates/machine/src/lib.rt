@@ -5,9 +5,12 @@
 #![tactic(auto)]
 
 mod arithmetic;
+mod kinds;
 pub mod numbers;
+mod registers;
 mod runs;
 mod table;
+mod word;
 
-pub use runs::{Ran, refusal, run};
+pub use runs::{Ran, run, within_limits};
 pub use table::{State, step};

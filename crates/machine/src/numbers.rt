@@ -1,23 +1,35 @@
 // 01's numbers that the machine answers with, and its limits, each named once; specs/Numbers.antt
 // has the same for the definitions.
+ghost use Rattle.std.specs.Prelude.{◌≡◌};
+ghost use Rattle.machine.specs.Stops.{status_of, counted_of};
 
-// The statuses of a state. 43 is 01's "budget used", and so the number of a state that still runs.
-pub const HALTED: u8 = 0;
-
-pub const NO_WORD: u8 = 40;
-
-pub const BAD_WORD: u8 = 41;
-
-pub const BAD_ADDRESS: u8 = 42;
-
+// The status of a state that runs: 01's "budget used", since a run that its budget ends leaves one.
 pub const RUNNING: u8 = 43;
 
-// The bare machine's refusals.
-pub const CODE_TOO_LONG: u8 = 36;
+// Why a machine stops where it stands.
+#[derive(Clone, Copy, Debug, PartialEq, Eq)]
+pub enum Stop {
+    Halted = 0,
+    NoWord = 40,
+    BadWord = 41,
+    BadAddress = 42,
+}
 
-pub const BAD_SIZE: u8 = 30;
+impl Stop {
+    // The status of a state that stopped so.
+    pub fn status(self) -> u8
+        ensures { result ≡ status_of self }
+    {
+        self as u8
+    }
 
-pub const BUDGET_TOO_LARGE: u8 = 34;
+    // How many words the machine acted on where it stops: a halt, and no word that traps.
+    pub fn counted(self) -> u32
+        ensures { result ≡ counted_of self }
+    {
+        u32::from(self == Stop::Halted)
+    }
+}
 
 // The largest code and heap, in words, and the largest budget.
 pub const CODE_WORDS: usize = 1024;

@@ -13,8 +13,8 @@ use Rattle.std.proofs.Math.Seq.{drop-cons, drop-append_seam}
 use Rattle.std.proofs.Math.Dec.{eqb-suc-zero}
 use borrow.Author.Tests.{ltb-true, ltb-false, eqb-true}
 use Rattle.choice.specs.Pick.{pick, is_less, not_less, is_equal, not_equal, both, either}
-use Rattle.number.specs.declared.Found.{Found}
-use Rattle.number.specs.declared.Found.TheVariants.{Number}
+use Rattle.number.specs.Found.{Found}
+use Rattle.number.specs.Found.{Number}
 use Rattle.number.specs.Number.{GROUPS, CONTINUES, last_of, groups_of, read_of, refusal_of}
 use Rattle.number.specs.Encode.{encode_from, encode_of}
 

@@ -1,8 +1,8 @@
 -- 01, "The packet": every number is in groups of seven bits, lowest group first, top bit set on all but the last byte; shortest form, at most five bytes, below 2 ^ 32.
 use Rattle.std.specs.Prelude.{ℕ, zero, suc, ◌+◌, ◌-◌, ◌*◌, ◌%◌, ◌^◌, List, length, get_or, ltb, eqb}
 use Rattle.choice.specs.Pick.{pick}
-use Rattle.number.specs.declared.Found.{Found}
-use Rattle.number.specs.declared.Found.TheVariants.{Number, Ended, Malformed}
+use Rattle.number.specs.Found.{Found}
+use Rattle.number.specs.Found.{Number, Ended, Malformed}
 
 -- the most bytes of a number, and the least byte that is not a number's last
 abbrev pub GROUPS : ℕ

@@ -1,14 +1,14 @@
 -- Laws for the loop that reads a number: one for each way through its body. `groups` holds them for a search.
 use Rattle.std.specs.Prelude.{ℕ, zero, suc, ◌+◌, ◌-◌, ◌*◌, ◌%◌, ◌^◌, ◌<◌, ◌≤◌, ◌≡◌, List, ltb, eqb, length, get_or}
-use Rattle.std.proofs.Common.{add_comm, mul_comm, mul-le-mul, le_of_lt, lt_of_le_of_lt, pow-suc, ◌∙◌, Fits, lit<, ltb-true}
+use Rattle.std.proofs.Common.{add_comm, mul_comm, pow-suc, ◌∙◌, Fits, lit<, ltb-true}
 use Rattle.std.proofs.Math.Nat.{pow-le-pow_right}
 use native.Mathlib.Omega.{arith}
 use Rattle.std.proofs.Math.Path.{refl, sym, ap}
 use Rattle.std.proofs.Math.Arith.{digits_lt}
 use Rattle.std.specs.Int.{w64}
 use Rattle.choice.specs.Pick.{is_less, not_less, is_equal, not_equal, both, each_way}
-use Rattle.number.specs.declared.Found.{Found}
-use Rattle.number.specs.declared.Found.TheVariants.{Number, Ended, Malformed}
+use Rattle.number.specs.Found.{Found}
+use Rattle.number.specs.Found.{Number, Ended, Malformed}
 use Rattle.number.specs.Number.{GROUPS, CONTINUES, malformed_of, last_of, groups_of, read_of}
 
 -- what a group counts with so many left: 1 for the first of five, 2 ^ 28 for the last
@@ -19,10 +19,10 @@ pub scale_first : 1 ≡ scale_at GROUPS
 unfolding scale_at
 scale_first = refl
 
-pub scale_next : (left scale : ℕ) → 0 < left → left ≤ GROUPS → scale ≡ scale_at left → scale * 128 ≡ scale_at (left - 1)
+pub scale_next : (left next scale : ℕ) → left ≡ next + 1 → left ≤ GROUPS → scale ≡ scale_at left → scale * 128 ≡ scale_at next
 unfolding scale_at
-scale_next left scale h g e =
-    let one_more : suc (GROUPS - left) ≡ GROUPS - (left - 1) = omega arith in
+scale_next left next scale h g e =
+    let one_more : suc (GROUPS - left) ≡ GROUPS - next = omega arith in
     ap (λ (x : ℕ). x * 128) e ∙ sym (pow-suc 128 (GROUPS - left)) ∙ ap (λ (n : ℕ). 128 ^ n) one_more
 
 pub scale_fits : (left scale : ℕ) → 0 < left → scale ≡ scale_at left → scale ≤ 2 ^ 28
@@ -38,19 +38,7 @@ below_next v g scale h k = rw (add_comm v (g * scale), mul_comm scale 128) (digi
 pub group_below : (v b scale v' : ℕ) → v < scale → v' ≡ v + b % 128 * scale → v' < scale * 128
 group_below v b scale v' h e = rw e (below_next v (b % 128) scale h (omega arith))
 
--- no product and no sum of the loop wraps
-pub product_fits : (g scale : ℕ) → g < 128 → scale ≤ 2 ^ 28 → Fits w64 (g * scale)
-product_fits g scale h k = record { fits = lt_of_le_of_lt (mul-le-mul (le_of_lt h) k) (lit< tt) }
-
-pub sum_fits : (v g scale : ℕ) → v < scale → g < 128 → scale ≤ 2 ^ 28 → Fits w64 (v + g * scale)
-sum_fits v g scale h k m = record { fits = omega (arith, below_next v g scale h k) }
-
-pub group_product_fits : (b scale : ℕ) → scale ≤ 2 ^ 28 → Fits w64 (b % 128 * scale)
-group_product_fits b scale = product_fits (b % 128) scale (omega arith)
-
-pub group_sum_fits : (v b scale : ℕ) → v < scale → scale ≤ 2 ^ 28 → Fits w64 (v + b % 128 * scale)
-group_sum_fits v b scale h = sum_fits v (b % 128) scale h (omega arith)
-
+-- nor does the scale wrap
 pub scale_times_fits : (left scale : ℕ) → 0 < left → scale ≡ scale_at left → Fits w64 (scale * 128)
 scale_times_fits left scale h e = record { fits = omega (arith, scale_fits left scale h e) }
 
@@ -68,12 +56,13 @@ module _ (whole : Found) (left : ℕ) (bytes : List ℕ) (first at v scale : ℕ
       let e : left ≡ suc (left - 1) = omega arith in
       inv ∙ ap (λ (n : ℕ). groups_of n bytes first at v scale) e
 
-  pub goes_on : (v' : ℕ) → 0 < left → at < length bytes → CONTINUES ≤ get_or bytes at 0 → v' ≡ v + get_or bytes at 0 % 128 * scale
-      → whole ≡ groups_of (left - 1) bytes first (at + 1) v' (scale * 128)
+  pub goes_on : (next v' : ℕ) → left ≡ next + 1 → at < length bytes → CONTINUES ≤ get_or bytes at 0 → v' ≡ v + get_or bytes at 0 % 128 * scale
+      → whole ≡ groups_of next bytes first (at + 1) v' (scale * 128)
   unfolding groups_of
-  goes_on v' h g c e =
-      one_taken h
-      ∙ sym (is_less at (length bytes) _ _ _ g (not_less (get_or bytes at 0) CONTINUES _ _ _ c (ap (λ (x : ℕ). groups_of (left - 1) bytes first (at + 1) x (scale * 128)) e)))
+  goes_on next v' h g c e =
+      let same : next ≡ left - 1 = omega arith in
+      one_taken (omega arith)
+      ∙ sym (is_less at (length bytes) _ _ _ g (not_less (get_or bytes at 0) CONTINUES _ _ _ c (cc)))
 
   pub at_last : (r : Found) → 0 < left → at < length bytes → get_or bytes at 0 < CONTINUES → r ≡ last_of v scale (get_or bytes at 0) first at → r ≡ whole
   unfolding groups_of

@@ -11,8 +11,7 @@ use Rattle.listing.specs.declared.items.Item.TheVariants.{Halt, Jmp, Bnz, Load, 
 use Rattle.listing.specs.Listing.{Register, LabelContext, Listing}
 use Rattle.listing.specs.Packet.{numbers_in}
 use Rattle.listing.specs.Bytes.{packet_bytes}
-use Rattle.checker.specs.declared.packets.Checked.{Checked}
-use Rattle.checker.specs.declared.packets.Checked.TheVariants.{Accepted, Refused}
+use Rattle.checker.specs.Checked.{Checked, Accepted, Refused}
 use Rattle.checker.specs.Check.{check_of}
 use Rattle.eraser.specs.Erase.{word_for}
 use Rattle.service.specs.Desk.{code_for}

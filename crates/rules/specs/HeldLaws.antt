@@ -1,207 +1,162 @@
--- Laws for the code that holds contexts: one for each way through it. `slots` holds those for registers, `stacks` those for the stack, `lists` those for a label's lists, read number by number.
-use Prim.Native.Nat.{ℕ, zero, suc, ◌+◌, ◌-◌, ◌<◌, ◌≤◌}
+-- Laws for the code that goes through a label's stack and registers, number by number: one for each way through a loop. `sames`, `belows`, `pushings` and `mets` hold them.
+use Prim.Native.Nat.{ℕ, suc, ◌+◌, ◌*◌, ◌-◌, ◌<◌, ◌≤◌}
 use native.Mathlib.Omega.{arith}
-use Rattle.std.specs.Prelude.{◌≡◌, Bool, true, length}
+use Rattle.std.specs.Prelude.{◌≡◌, Bool, true, length, eqb}
 use Rattle.std.proofs.Math.Path.{refl, sym, ap}
-use Rattle.std.proofs.Common.{◌∙◌, length-drop, drop_of_length-le, drop-cons}
+use Rattle.std.proofs.Common.{◌∙◌, drop_of_length-le, drop-cons}
 use Rattle.std.proofs.Math.Bool.{false}
 use mathlib.Core.List.{List, [], ◌∷◌}
-use Rattle.std.proofs.Math.ListN.{get_or, set, drop}
-use Rattle.std.proofs.Math.Seq.{set_out}
-use Rattle.choice.specs.Pick.{is_true, is_false, is_equal, not_equal}
-use Rattle.listing.specs.Limits.{STACK}
+use Rattle.std.proofs.Math.ListN.{get_or, set, take, drop}
+use Rattle.std.proofs.Math.Seq.{take-length}
+use Rattle.choice.specs.Pick.{is_true, is_false, is_equal, not_equal, both as each}
+use Rattle.listing.specs.Limits.{STACK, REGISTERS}
 use Rattle.listing.specs.Listing.{Register}
-use Rattle.listing.specs.Parts.{parts_from, number_at, count_of, register_at, label_at}
+use Rattle.listing.specs.Parts.{parts_from, number_at, count_of, count_at, register_at, registers_place, registers_at, label_at, stack_at}
 use Rattle.listing.specs.PartLaws.{parts_more, parts_none, parts_length}
 use Rattle.listing.specs.PlaceLaws.{count_held}
 use Rattle.rules.specs.declared.contexts.Slot.{Slot}
-use Rattle.rules.specs.Context.{slot_of, meets, met_of, same_of, with_listed}
+use Rattle.rules.specs.Context.{slot_of, meets, met_of, same_of, no_registers, with_listed}
 
 -- a number that is held to a limit
 pub count_within : (limit n : ℕ) → count_of limit n ≤ limit
 count_within limit n = count_held limit n (count_of limit n) refl
 
--- a cell that is written is the first of those from it on
-push_at : (cells : List ℕ) (l n : ℕ) → n < length cells → drop n (set cells n l) ≡ l ∷ drop (suc n) cells
-push_at [] l n h = absurd (omega arith)
-push_at (x ∷ cells) l zero h = refl
-push_at (x ∷ cells) l (suc n) h = push_at cells l n (omega arith)
+-- how many labels a label's stack has
+pub stack_length : (ns : List ℕ) (place : ℕ) → length (label_at ns place).stack ≡ count_at STACK ns (place + 1)
+stack_length ns place = parts_length (number_at ns) (λ p. p + 1) (place + 2) (count_at STACK ns (place + 1))
 
--- the stack
-module _ (cells : List ℕ) (top : ℕ) (whole : length cells ≡ STACK) where
-  pub depth_is : top < STACK → STACK - top ≡ length (drop top cells)
-  depth_is h = sym (length-drop top cells ∙ ap (λ (n : ℕ). n - top) whole)
+-- of `count` parts, those from the i-th on, which stands at `at`: the i-th, and those from the next on
+part_turn : {A : Type 0} (part : ℕ → A) (next : ℕ → ℕ) (at after i count : ℕ) → i < count → next at ≡ after
+    → parts_from part next at (count - i) ≡ part at ∷ parts_from part next after (count - (i + 1))
+part_turn part next at after i count h e =
+    let fewer : count - i - 1 ≡ count - (i + 1) = omega arith in
+    parts_more part next at (count - i) (omega arith) ∙ (λ j. part at ∷ parts_from part next (e j) (fewer j))
 
-  pub depth_none : STACK ≤ top → 0 ≡ length (drop top cells)
-  depth_none h = sym (ap length (drop_of_length-le cells {i = top} (omega arith)))
+part_end : {A : Type 0} (part : ℕ → A) (next : ℕ → ℕ) (at i count : ℕ) → count ≤ i → parts_from part next at (count - i) ≡ []
+part_end part next at i count h = parts_none part next at (count - i) (omega arith)
 
-  pub pushes : (l : ℕ) → 0 < top → top < STACK → drop (top - 1) (set cells (top - 1) l) ≡ l ∷ drop top cells
-  pushes l h k = let back : suc (top - 1) ≡ top = omega arith in push_at cells l (top - 1) (omega arith) ∙ ap (λ (n : ℕ). l ∷ drop n cells) back
-
-  pub pushes_first : (l : ℕ) → STACK ≤ top → drop (STACK - 1) (set cells (STACK - 1) l) ≡ l ∷ drop top cells
-  pushes_first l h =
-      push_at cells l (STACK - 1) (omega arith)
-      ∙ ap (λ (r : List ℕ). l ∷ r) (drop_of_length-le cells {i = STACK} (omega arith) ∙ sym (drop_of_length-le cells {i = top} (omega arith)))
-
-  pub has_room : length (drop top cells) < STACK → 0 < top
-  has_room h = omega (arith, length-drop top cells)
-
-pub ruleset stacks = (refl, depth_is, depth_none, pushes, pushes_first, has_room)
-
--- a label's stack against the cells from i on, label by label: `answer` is that for all
+-- a row of labels against a label's stack, label by label: `answer` is that for all
 abbrev labels_from : List ℕ → ℕ → ℕ → List ℕ
 labels_from ns = parts_from (number_at ns) (λ p. p + 1)
 
-module _ (answer : Bool) (cells ns : List ℕ) (i at left : ℕ) (whole : length cells ≡ STACK) (inv : answer ≡ same_of (drop i cells) (labels_from ns at left)) where
-  -- with a label left, and a cell left or none; and with no label left
-  one_more : 0 < left → answer ≡ same_of (drop i cells) (number_at ns at ∷ labels_from ns (at + 1) (left - 1))
-  one_more h = inv ∙ ap (same_of (drop i cells)) (parts_more (number_at ns) (λ p. p + 1) at left h)
+same_lengths : (s t : List ℕ) → (length s ≡ length t → ⊥) → false ≡ same_of s t
+unfolding same_of
+same_lengths [] [] h = absurd (h refl)
+same_lengths [] (b ∷ t) h = refl
+same_lengths (a ∷ s) [] h = refl
+same_lengths (a ∷ s) (b ∷ t) h = each (λ (r : Bool). false ≡ r) (eqb a b) _ _ (same_lengths s t (λ e. h (ap suc e))) refl
 
-  none_left : left ≤ 0 → answer ≡ same_of (drop i cells) []
-  none_left h = inv ∙ ap (same_of (drop i cells)) (parts_none (number_at ns) (λ p. p + 1) at left h)
+module _ (answer : Bool) (labels ns : List ℕ) (i first count : ℕ) (inv : answer ≡ same_of (drop i labels) (labels_from ns (first + i) (count - i))) (whole : length labels ≡ count) where
+  here : i < length labels → answer ≡ same_of (get_or labels i 0 ∷ drop (i + 1) labels) (number_at ns (first + i) ∷ labels_from ns (first + (i + 1)) (count - (i + 1)))
+  here h =
+      let next : suc i ≡ i + 1 = omega arith in
+      let cells : drop i labels ≡ get_or labels i 0 ∷ drop (i + 1) labels = drop-cons labels i 0 h ∙ ap (λ (n : ℕ). get_or labels i 0 ∷ drop n labels) next in
+      let rest = part_turn (number_at ns) (λ p. p + 1) (first + i) (first + (i + 1)) i count (omega arith) (omega arith) in
+      inv ∙ (λ j. same_of (cells j) (rest j))
 
-  cell_left : i < STACK → drop i cells ≡ get_or cells i 0 ∷ drop (i + 1) cells
-  cell_left h = let next : suc i ≡ i + 1 = omega arith in drop-cons cells i 0 (omega arith) ∙ ap (λ (n : ℕ). get_or cells i 0 ∷ drop n cells) next
-
-  no_cell : STACK ≤ i → drop i cells ≡ []
-  no_cell h = drop_of_length-le cells {i = i} (omega arith)
-
-  pub same_turn : (v : ℕ) → 0 < left → i < STACK → v ≡ number_at ns at → get_or cells i 0 ≡ v → answer ≡ same_of (drop (i + 1) cells) (labels_from ns (at + 1) (left - 1))
+  pub same_turn : (v : ℕ) → i < length labels → v ≡ number_at ns (first + i) → get_or labels i 0 ≡ v → answer ≡ same_of (drop (i + 1) labels) (labels_from ns (first + (i + 1)) (count - (i + 1)))
   unfolding same_of
-  same_turn v h k q e =
-      one_more h
-      ∙ ap (λ (r : List ℕ). same_of r (number_at ns at ∷ labels_from ns (at + 1) (left - 1))) (cell_left k)
-      ∙ sym (is_equal (get_or cells i 0) (number_at ns at) _ _ false (e ∙ q) refl)
+  same_turn v h q e = here h ∙ sym (is_equal (get_or labels i 0) (number_at ns (first + i)) _ _ false (e ∙ q) refl)
 
-  pub same_differs : (v : ℕ) → 0 < left → i < STACK → v ≡ number_at ns at → (get_or cells i 0 ≡ v → ⊥) → false ≡ answer
+  pub same_differs : (v : ℕ) → i < length labels → v ≡ number_at ns (first + i) → (get_or labels i 0 ≡ v → ⊥) → false ≡ answer
   unfolding same_of
-  same_differs v h k q e =
-      sym
-      (one_more h
-      ∙ ap (λ (r : List ℕ). same_of r (number_at ns at ∷ labels_from ns (at + 1) (left - 1))) (cell_left k)
-      ∙ sym (not_equal (get_or cells i 0) (number_at ns at) _ _ _ (λ d. e (d ∙ sym q)) refl))
+  same_differs v h q e = sym (here h ∙ sym (not_equal (get_or labels i 0) (number_at ns (first + i)) _ _ _ (λ d. e (d ∙ sym q)) refl))
 
-  pub same_short : 0 < left → STACK ≤ i → false ≡ answer
+  pub same_all : length labels ≤ i → true ≡ answer
   unfolding same_of
-  same_short h k = sym (one_more h ∙ ap (λ (r : List ℕ). same_of r (number_at ns at ∷ labels_from ns (at + 1) (left - 1))) (no_cell k))
+  same_all h = sym (inv ∙ (λ j. same_of (drop_of_length-le labels {i = i} h j) (part_end (number_at ns) (λ p. p + 1) (first + i) i count (omega arith) j)))
 
-  pub same_long : left ≤ 0 → i < STACK → false ≡ answer
-  unfolding same_of
-  same_long h k = sym (none_left h ∙ ap (λ (r : List ℕ). same_of r []) (cell_left k))
+pub same_none : (labels ns : List ℕ) (first count : ℕ) → same_of labels (labels_from ns first count) ≡ same_of labels (labels_from ns (first + 0) (count - 0))
+same_none labels ns first count = let at : first ≡ first + 0 = omega arith in let all : count ≡ count - 0 = omega arith in (λ i. same_of labels (labels_from ns (at i) (all i)))
 
-  pub same_all : left ≤ 0 → STACK ≤ i → true ≡ answer
-  unfolding same_of
-  same_all h k = sym (none_left h ∙ ap (λ (r : List ℕ). same_of r []) (no_cell k))
+pub same_short : (labels ns : List ℕ) (place n : ℕ) → n ≡ length (label_at ns place).stack → (length labels ≡ n → ⊥) → false ≡ same_of labels (stack_at ns place)
+same_short labels ns place n e h = same_lengths labels (stack_at ns place) (λ d. h (d ∙ sym e))
+
+pub same_long : (labels ns : List ℕ) (place n : ℕ) → n ≡ length (label_at ns place).stack → length labels ≡ n → length labels ≡ count_at STACK ns (place + 1)
+same_long labels ns place n e h = h ∙ e ∙ stack_length ns place
 
 -- a label on top, and a label's stack below it
-module _ (cells below : List ℕ) (top l : ℕ) (whole : length cells ≡ STACK) where
-  pub below_top : (answer : Bool) → top < STACK → get_or cells top 0 ≡ l → answer ≡ same_of (drop (top + 1) cells) below → answer ≡ same_of (drop top cells) (l ∷ below)
-  unfolding same_of
-  below_top answer h e p =
-      let next : suc top ≡ top + 1 = omega arith in
-      is_equal (get_or cells top 0) l _ _ false e p
-      ∙ ap (λ (r : List ℕ). same_of r (l ∷ below)) (sym (drop-cons cells top 0 (omega arith) ∙ ap (λ (n : ℕ). get_or cells top 0 ∷ drop n cells) next))
+pub below_top : (s labels below : List ℕ) (l : ℕ) (r : Bool) → labels ≡ s → 1 ≤ length labels → get_or labels 0 0 ≡ l → r ≡ same_of (take (length labels - 1) (drop 1 labels)) below → r ≡ same_of s (l ∷ below)
+unfolding same_of
+below_top s [] below l r e h t p = absurd (omega arith)
+below_top s (a ∷ labels) below l r e h t p =
+    let rest : length (a ∷ labels) - 1 ≡ length labels = omega arith in
+    is_equal a l r _ false t (p ∙ (λ i. same_of (((λ j. take (rest j) labels) ∙ take-length labels) i) below)) ∙ ap (λ (x : List ℕ). same_of x (l ∷ below)) e
 
-  pub other_top : top < STACK → (get_or cells top 0 ≡ l → ⊥) → false ≡ same_of (drop top cells) (l ∷ below)
-  unfolding same_of
-  other_top h e =
-      not_equal (get_or cells top 0) l _ _ _ e refl
-      ∙ ap (λ (r : List ℕ). same_of r (l ∷ below)) (sym (drop-cons cells top 0 (omega arith)))
+pub no_top : (s labels below : List ℕ) (l : ℕ) → labels ≡ s → length labels < 1 → false ≡ same_of s (l ∷ below)
+unfolding same_of
+no_top s [] below l e h = ap (λ (x : List ℕ). same_of x (l ∷ below)) e
+no_top s (a ∷ labels) below l e h = absurd (omega arith)
 
-  pub no_top : STACK ≤ top → false ≡ same_of (drop top cells) (l ∷ below)
-  unfolding same_of
-  no_top h = ap (λ (r : List ℕ). same_of r (l ∷ below)) (sym (drop_of_length-le cells {i = top} (omega arith)))
+pub ruleset belows = (refl, below_top, no_top)
 
-pub ruleset belows = (refl, below_top, other_top, no_top)
+pub ruleset sames = (refl, same_turn, same_differs, same_all, same_none, same_short, same_long)
 
--- a label's stack, pushed from its last label up: those from `left` on are pushed
-module _ (pushed ns : List ℕ) (at left n : ℕ) (inv : pushed ≡ labels_from ns (at + left) (count_of STACK n - left)) (within : left ≤ count_of STACK n) where
-  abbrev count : ℕ
-  count = count_of STACK n
-
-  pub stack_room : 0 < left → length pushed < STACK
-  stack_room h = omega (arith, ap length inv, count_within STACK n, parts_length (number_at ns) (λ p. p + 1) (at + left) (count - left))
-
-  pub stack_turn : (after : List ℕ) (l : ℕ) → 0 < left → l ≡ number_at ns (at + (left - 1)) → after ≡ l ∷ pushed → after ≡ labels_from ns (at + (left - 1)) (count - (left - 1))
-  stack_turn after l h p e =
-      let behind : at + (left - 1) + 1 ≡ at + left = omega arith in
-      let fewer : count - (left - 1) - 1 ≡ count - left = omega arith in
-      e
-      ∙ (λ i. p i ∷ (inv ∙ (λ j. labels_from ns (sym behind j) (sym fewer j))) i)
-      ∙ sym (parts_more (number_at ns) (λ p. p + 1) (at + (left - 1)) (count - (left - 1)) (omega arith))
-
-  pub stack_written : (cells : List ℕ) (top l : ℕ) → pushed ≡ drop top cells → length cells ≡ STACK → top + (count - left) ≡ STACK → 0 < left → l ≡ number_at ns (at + (left - 1))
-      → drop (top - 1) (set cells (top - 1) l) ≡ labels_from ns (at + (left - 1)) (count - (left - 1))
-  stack_written cells top l p w s h q =
-      let room : 0 < top = omega (arith, count_within STACK n) in
-      let back : suc (top - 1) ≡ top = omega arith in
-      stack_turn _ l h q (push_at cells l (top - 1) (omega arith) ∙ ap (λ (m : ℕ). l ∷ drop m cells) back ∙ ap (λ (r : List ℕ). l ∷ r) (sym p))
-
-  pub stack_all : left ≤ 0 → pushed ≡ labels_from ns at count
-  stack_all h =
-      let none : at + left ≡ at = omega arith in
-      let all : count - left ≡ count = omega arith in
-      inv ∙ (λ i. labels_from ns (none i) (all i))
-
-module _ (ns : List ℕ) (at left v p : ℕ) (held : left ≡ count_of STACK v) (read : v ≡ number_at ns p) where
-  all_left : left ≡ count_of STACK (number_at ns p)
-  all_left = held ∙ ap (count_of STACK) read
-
-  pub stack_none : (pushed : List ℕ) → pushed ≡ [] → pushed ≡ labels_from ns at (count_of STACK (number_at ns p) - left)
-  stack_none pushed e = e ∙ sym (parts_none (number_at ns) (λ q. q + 1) at (count_of STACK (number_at ns p) - left) (omega (arith, all_left)))
-
-  pub all_cells_left : STACK + (count_of STACK (number_at ns p) - left) ≡ STACK
-  all_cells_left = omega (arith, all_left)
-
-  pub none_pushed : left ≤ count_of STACK (number_at ns p)
-  none_pushed = omega (arith, all_left)
-
--- how many labels a label's stack has
 pub label_depth : (ns : List ℕ) (place k v : ℕ) → k ≡ count_of STACK v → v ≡ number_at ns (place + 1) → k ≡ length (label_at ns place).stack
-label_depth ns place k v p q = p ∙ ap (count_of STACK) q ∙ sym (parts_length (number_at ns) (λ p. p + 1) (place + 2) (count_of STACK (number_at ns (place + 1))))
+label_depth ns place k v p q = p ∙ ap (count_of STACK) q ∙ sym (stack_length ns place)
 
-pub ruleset pushings = (refl, count_within, stack_room, stack_turn, stack_written, stack_all, stack_none, all_cells_left, none_pushed, label_depth)
+-- a label's stack, pushed from its last label up: those from the i-th on are pushed, and the one before it comes next
+module _ (pushed ns : List ℕ) (place i : ℕ) (inv : pushed ≡ labels_from ns (place + 2 + i) (count_at STACK ns (place + 1) - i)) (within : i ≤ count_at STACK ns (place + 1)) (more : 0 < i) where
+  pub push_room : length pushed < STACK
+  push_room = omega (arith, ap length inv, count_within STACK (number_at ns (place + 1)), parts_length (number_at ns) (λ p. p + 1) (place + 2 + i) (count_at STACK ns (place + 1) - i))
 
-pub ruleset sames = (refl, same_turn, same_differs, same_short, same_long, same_all)
+  pub push_turn : (after : List ℕ) (l : ℕ) → l ≡ number_at ns (place + 2 + (i - 1)) → after ≡ l ∷ pushed → after ≡ labels_from ns (place + 2 + (i - 1)) (count_at STACK ns (place + 1) - (i - 1))
+  push_turn after l p e =
+      let back : i ≡ i - 1 + 1 = omega arith in
+      e
+      ∙ (λ j. p j ∷ (inv ∙ (λ k. labels_from ns (place + 2 + i) (count_at STACK ns (place + 1) - back k))) j)
+      ∙ sym (part_turn (number_at ns) (λ p. p + 1) (place + 2 + (i - 1)) (place + 2 + i) (i - 1) (count_at STACK ns (place + 1)) (omega arith) (omega arith))
 
--- a label's registers from a place on: whether all are met, and the registers with them put in
+pub push_within : (ns : List ℕ) (place n : ℕ) → n ≡ length (label_at ns place).stack → n ≤ count_at STACK ns (place + 1)
+push_within ns place n h = omega (arith, h, stack_length ns place)
+
+pub push_none : (pushed ns : List ℕ) (place n : ℕ) → pushed ≡ [] → n ≡ length (label_at ns place).stack → pushed ≡ labels_from ns (place + 2 + n) (count_at STACK ns (place + 1) - n)
+push_none pushed ns place n e h =
+    e ∙ sym (part_end (number_at ns) (λ p. p + 1) (place + 2 + n) n (count_at STACK ns (place + 1)) (omega (arith, h, stack_length ns place)))
+
+pub ruleset pushings = (refl, push_none, push_within, push_room, push_turn)
+
+-- a label's registers: whether all are met, and the registers with them put in; the i-th is next
 abbrev registers_from : List ℕ → ℕ → ℕ → List Register
 registers_from ns = parts_from (register_at ns) (λ p. p + 3)
 
-module _ (registers : List Slot) (ns : List ℕ) (at left : ℕ) where
-  next_register : 0 < left → registers_from ns at left ≡ register_at ns at ∷ registers_from ns (at + 3) (left - 1)
-  next_register = parts_more (register_at ns) (λ p. p + 3) at left
+module _ (registers : List Slot) (ns : List ℕ) (first i count : ℕ) where
+  next_register : i < count → registers_from ns (first + 3 * i) (count - i) ≡ register_at ns (first + 3 * i) ∷ registers_from ns (first + 3 * (i + 1)) (count - (i + 1))
+  next_register h = part_turn (register_at ns) (λ p. p + 3) (first + 3 * i) (first + 3 * (i + 1)) i count h (omega arith)
 
-  no_register : left ≤ 0 → registers_from ns at left ≡ []
-  no_register = parts_none (register_at ns) (λ p. p + 3) at left
+  no_register : count ≤ i → registers_from ns (first + 3 * i) (count - i) ≡ []
+  no_register h = part_end (register_at ns) (λ p. p + 3) (first + 3 * i) i count h
 
-  module _ (answer : Bool) (inv : answer ≡ met_of registers (registers_from ns at left)) where
-    pub met_turn : (b : Bool) → 0 < left → b ≡ meets registers (register_at ns at) → b ≡ true → answer ≡ met_of registers (registers_from ns (at + 3) (left - 1))
+  module _ (answer : Bool) (inv : answer ≡ met_of registers (registers_from ns (first + 3 * i) (count - i))) where
+    pub met_turn : (b : Bool) → i < count → b ≡ meets registers (register_at ns (first + 3 * i)) → b ≡ true → answer ≡ met_of registers (registers_from ns (first + 3 * (i + 1)) (count - (i + 1)))
     unfolding met_of
     met_turn b h e p = inv ∙ ap (met_of registers) (next_register h) ∙ sym (is_true _ _ _ false (sym e ∙ p) refl)
 
-    pub met_not : (b : Bool) → 0 < left → b ≡ meets registers (register_at ns at) → b ≡ false → false ≡ answer
+    pub met_not : (b : Bool) → i < count → b ≡ meets registers (register_at ns (first + 3 * i)) → b ≡ false → false ≡ answer
     unfolding met_of
     met_not b h e p = sym (inv ∙ ap (met_of registers) (next_register h) ∙ sym (is_false _ _ _ _ (sym e ∙ p) refl))
 
-    pub met_all : left ≤ 0 → true ≡ answer
+    pub met_all : count ≤ i → true ≡ answer
     unfolding met_of
     met_all h = sym (inv ∙ ap (met_of registers) (no_register h))
 
-  module _ (answer : List Slot) (inv : answer ≡ with_listed registers (registers_from ns at left)) where
-    pub listed_turn : (after : List Slot) (s : Slot) (r : ℕ) → 0 < left → s ≡ slot_of (register_at ns at) → r ≡ number_at ns at → after ≡ set registers r s
-        → answer ≡ with_listed after (registers_from ns (at + 3) (left - 1))
-    unfolding with_listed
-    listed_turn after s r h p q e =
-        inv
-        ∙ ap (with_listed registers) (next_register h)
-        ∙ ap (λ (x : List Slot). with_listed x (registers_from ns (at + 3) (left - 1))) (sym (e ∙ (λ i. set registers (q i) (p i))))
+  pub listed_turn : (answer after : List Slot) (s : Slot) (r : ℕ) → after ≡ set registers r s → answer ≡ with_listed registers (registers_from ns (first + 3 * i) (count - i))
+      → r ≡ number_at ns (first + 3 * i) → s ≡ slot_of (register_at ns (first + 3 * i)) → i < count → answer ≡ with_listed after (registers_from ns (first + 3 * (i + 1)) (count - (i + 1)))
+  unfolding with_listed
+  listed_turn answer after s r e inv q p h =
+      inv
+      ∙ ap (with_listed registers) (next_register h)
+      ∙ ap (λ (x : List Slot). with_listed x (registers_from ns (first + 3 * (i + 1)) (count - (i + 1)))) (sym (e ∙ (λ j. set registers (q j) (p j))))
 
-    pub listed_past : (n r : ℕ) → 0 < left → r ≡ number_at ns at → length registers ≡ n → n ≤ r → answer ≡ with_listed registers (registers_from ns (at + 3) (left - 1))
-    listed_past n r h q w past = listed_turn registers _ r h refl q (sym (set_out registers r _ (omega arith)))
+  pub listed_all : (answer : List Slot) → answer ≡ with_listed registers (registers_from ns (first + 3 * i) (count - i)) → count ≤ i → registers ≡ answer
+  unfolding with_listed
+  listed_all answer inv h = sym (inv ∙ ap (with_listed registers) (no_register h))
 
-    pub listed_all : left ≤ 0 → registers ≡ answer
-    unfolding with_listed
-    listed_all h = sym (inv ∙ ap (with_listed registers) (no_register h))
+pub ruleset mets = (refl, met_turn, met_not, met_all)
 
-pub ruleset lists = (refl, met_turn, met_not, met_all, listed_turn, listed_past, listed_all)
+pub listed_none : (ns : List ℕ) (place p : ℕ) (registers : List Slot) → registers ≡ no_registers → p ≡ registers_place ns place
+    → with_listed no_registers (label_at ns place).registers ≡ with_listed registers (registers_from ns (p + 1 + 3 * 0) (count_at REGISTERS ns p - 0))
+listed_none ns place p registers e h =
+    let at : p + 1 ≡ p + 1 + 3 * 0 = omega arith in
+    let all : count_at REGISTERS ns p ≡ count_at REGISTERS ns p - 0 = omega arith in
+    (λ i. with_listed (sym e i) (registers_at ns (sym h i))) ∙ (λ i. with_listed registers (registers_from ns (at i) (all i)))

@@ -2,5 +2,5 @@
 pub mod Numbers  -- refusals, each named once
 pub mod Context  -- the current context
 pub mod Rules  -- for each item its premises in the table's order, and the context behind it
-pub mod Held  -- how the code holds a context
+pub mod Held  -- how the code holds a context, and a label's
 pub mod HeldLaws  -- for the proofs of its code

@@ -1,26 +1,76 @@
-// The current context, by value: what it says of the registers, the stack of labels, the pc level.
-ghost use Rattle.std.specs.Prelude.{◌≡◌, ◌<◌, ◌≤◌, ◌+◌, length, set, drop, [], ◌∷◌};
+// The current context: what it says of the registers, the stack of labels, the pc level.
+ghost use Rattle.std.specs.Prelude.{◌≡◌, ◌<◌, [], ◌∷◌, length, set};
+ghost use Rattle.levels.specs.Sets.{join_of};
 ghost use Rattle.listing.specs.Limits;
-ghost use Rattle.listing.specs.Parts.{register_at, registers_place, label_at};
-ghost use Rattle.rules.specs.Context.{context_of, slot_at, slot_of, exactly, meets, met_of, same_of, no_registers, with_listed, entered};
-ghost use Rattle.rules.specs.Held.{NEAR, stack_in, context_in};
+ghost use Rattle.rules.specs.Context.{typed, context_of, slot_at, exactly, no_registers};
+ghost use Rattle.rules.specs.Held.{stack_in, context_in};
 
-use listing::limits::{REGISTERS, SHAPES, STACK, TOP_LEVEL};
-use listing::{at_most, number_at};
+use crate::stacks::Stack;
+use levels::join;
 
-// What a context says of a register: whether it is listed, and then its kind and level.
-#[derive(Clone, Copy)]
+// What a context says of a register: whether it is listed, and its kind and level.
+// The kind is a number, as the packet and each rule's row have it: 0 for an integer, k for a pointer to shape k − 1. No
+// Option: `load` and `store` promise their rows for a register that is not listed too, of any kind and level.
+#[derive(Clone, Copy, PartialEq, Eq)]
 pub struct Slot {
     pub listed: bool,
     pub kind: u8,
     pub level: u8,
 }
 
-// A stack of labels: those from `top` on, the top one first.
-#[derive(Clone, Copy)]
-pub struct Stack {
-    pub top: usize,
-    pub cells: [u32; 16],
+// What is said of a register that is not listed.
+const UNLISTED: Slot = Slot {
+    listed: false,
+    kind: 0,
+    level: 0,
+};
+
+impl Slot {
+    // A register that is listed.
+    pub(crate) fn typed(kind: u8, level: u8) -> Slot
+        ensures { result ≡ typed kind level }
+    {
+        Slot {
+            listed: true,
+            kind,
+            level,
+        }
+    }
+
+    // Whether a register is listed with exactly this kind and level, which may be any numbers.
+    #[tactic(auto, unfolding(choice::specs::Pick::pick))]
+    pub fn is_exactly(self, kind: u32, level: u32) -> bool
+        ensures { result ≡ exactly self kind level }
+    {
+        self.listed && self.kind as u32 == kind && self.level as u32 == level
+    }
+}
+
+// What is said of a register.
+pub fn slot_at(registers: &[Slot; 16], r: u32) -> Slot
+    ensures { result ≡ slot_at registers.now r }
+{
+    registers.get(r as usize).copied().unwrap_or(UNLISTED)
+}
+
+// Says something else of a register.
+pub fn set_slot(registers: &mut [Slot; 16], r: u32, s: Slot)
+    ensures { registers.new ≡ set registers.old r s }
+{
+    let i = r as usize;
+    if i < registers.len() {
+        registers[i] = s;
+    }
+}
+
+// r0 alone.
+#[tactic(auto, unfolding(crate::specs::Context::no_registers))]
+pub(crate) fn no_registers() -> [Slot; 16]
+    ensures { result ≡ no_registers }
+{
+    let mut registers = [UNLISTED; 16];
+    registers[0] = Slot::typed(0, 0);
+    registers
 }
 
 // The context.
@@ -31,240 +81,46 @@ pub struct Held {
     pub registers: [Slot; 16],
 }
 
-// What is said of a register.
-pub fn slot_at(registers: [Slot; 16], r: u32) -> Slot
-    ensures { result ≡ slot_at registers r }
-{
-    let i = r as usize;
-    if i < 16 {
-        registers[i]
-    } else {
-        Slot {
-            listed: false,
-            kind: 0,
+impl Held {
+    // The context of the walk's start, where nothing is listed yet.
+    pub fn nothing() -> Held
+        ensures { context_in result ≡ context_of 0 [] no_registers }
+    {
+        Held {
             level: 0,
+            stack: Stack::empty(),
+            registers: no_registers(),
         }
     }
-}
 
-// The registers with one said anew.
-pub fn with_slot(registers: [Slot; 16], r: u32, s: Slot) -> [Slot; 16]
-    ensures { result ≡ set registers r s }
-{
-    let i = r as usize;
-    let mut after = registers;
-    if i < 16 {
-        after[i] = s;
-        return after;
+    // What is said of a register.
+    pub fn slot(&self, r: u32) -> Slot
+        ensures { result ≡ slot_at self.now.registers r }
+    {
+        slot_at(&self.registers, r)
     }
-    after
-}
 
-// Whether a register is listed with exactly this kind and level.
-pub fn is_exactly(s: Slot, kind: u32, level: u32) -> bool
-    ensures { result ≡ exactly s kind level }
-{
-    if s.listed {
-        if s.kind as u32 == kind {
-            return s.level as u32 == level;
-        }
-        return false;
+    // Raises the pc level by a register's.
+    pub fn raise(&mut self, rs: u32)
+        ensures { context_in self.new ≡ context_of (join_of self.old.level (slot_at self.old.registers rs).level) (stack_in self.old.stack) self.old.registers }
+    {
+        let s = self.slot(rs);
+        self.level = join(self.level, s.level as u32);
     }
-    false
-}
 
-// Where a label's count of registers stands.
-fn registers_place(numbers: &[u32], place: u32) -> usize
-    ensures value { result ≡ registers_place numbers.now place }
-    ensures near { result ≤ place + 2 + Limits.STACK }
-{
-    let at = place as usize;
-    at + 2 + at_most(STACK, number_at(numbers, at + 1)) as usize
-}
-
-// Whether the register listed at a place is listed now with equal kind and level.
-fn is_met(registers: [Slot; 16], numbers: &[u32], at: usize) -> bool
-    requires { at < NEAR }
-    ensures { result ≡ meets registers (register_at numbers.now at) }
-{
-    is_exactly(
-        slot_at(registers, number_at(numbers, at)),
-        at_most(SHAPES, number_at(numbers, at + 1)),
-        at_most(TOP_LEVEL, number_at(numbers, at + 2)),
-    )
-}
-
-// Whether each register that a label lists is listed now with equal kind and level.
-pub fn met(registers: [Slot; 16], numbers: &[u32], place: u32) -> bool
-    ensures { result ≡ met_of registers (label_at numbers.now place).registers }
-{
-    let count = registers_place(numbers, place);
-    let mut left = at_most(REGISTERS, number_at(numbers, count));
-    let mut at = count + 1;
-    while 0 < left {
-        if is_met(registers, numbers, at) {
-            at += 3;
-            left -= 1;
-        } else {
-            return false;
-        }
+    // Changes the kind of a register; its level stays.
+    pub fn change(&mut self, rd: u32, kind: u8)
+        ensures { context_in self.new ≡ context_of self.old.level (stack_in self.old.stack) (set self.old.registers rd (typed kind (slot_at self.old.registers rd).level)) }
+    {
+        let d = self.slot(rd);
+        set_slot(&mut self.registers, rd, Slot::typed(kind, d.level));
     }
-    true
-}
 
-// What a label says of the register that it lists at a place.
-fn listed_slot(numbers: &[u32], at: usize) -> Slot
-    requires { at < NEAR }
-    ensures { result ≡ slot_of (register_at numbers.now at) }
-{
-    Slot {
-        listed: true,
-        kind: at_most(SHAPES, number_at(numbers, at + 1)) as u8,
-        level: at_most(TOP_LEVEL, number_at(numbers, at + 2)) as u8,
-    }
-}
-
-// r0 alone.
-fn no_registers() -> [Slot; 16]
-    ensures { result ≡ no_registers }
-{
-    let mut registers = [Slot {
-        listed: false,
-        kind: 0,
-        level: 0,
-    }; 16];
-    registers[0] = Slot {
-        listed: true,
-        kind: 0,
-        level: 0,
-    };
-    registers
-}
-
-// The registers that a label lists, and r0.
-fn label_registers(numbers: &[u32], place: u32) -> [Slot; 16]
-    ensures { result ≡ with_listed no_registers (label_at numbers.now place).registers }
-{
-    let count = registers_place(numbers, place);
-    let mut left = at_most(REGISTERS, number_at(numbers, count));
-    let mut at = count + 1;
-    let mut registers = no_registers();
-    while 0 < left {
-        let i = number_at(numbers, at) as usize;
-        if i < 16 {
-            registers[i] = listed_slot(numbers, at);
-            at += 3;
-            left -= 1;
-        } else {
-            at += 3;
-            left -= 1;
-        }
-    }
-    registers
-}
-
-// How many labels are on a stack.
-pub fn depth(s: Stack) -> usize
-    ensures { result ≡ length (stack_in s) }
-{
-    let top = s.top;
-    if top < 16 { 16 - top } else { 0 }
-}
-
-// How many labels are on a label's stack.
-pub fn label_depth(numbers: &[u32], place: u32) -> u32
-    ensures { result ≡ length (label_at numbers.now place).stack }
-{
-    at_most(STACK, number_at(numbers, place as usize + 1))
-}
-
-// Whether the labels from a cell on are those of a label's stack.
-fn same_from(cells: [u32; 16], from: usize, numbers: &[u32], place: u32) -> bool
-    ensures { result ≡ same_of (drop from cells) (label_at numbers.now place).stack }
-{
-    let first = place as usize;
-    let mut left = at_most(STACK, number_at(numbers, first + 1));
-    let mut at = first + 2;
-    let mut i = from;
-    while 0 < left {
-        if i < 16 {
-            if cells[i] == number_at(numbers, at) {
-                at += 1;
-                i += 1;
-                left -= 1;
-            } else {
-                return false;
-            }
-        } else {
-            return false;
-        }
-    }
-    if i < 16 {
-        return false;
-    }
-    true
-}
-
-// Whether a stack equals a label's.
-pub fn same_stack(s: Stack, numbers: &[u32], place: u32) -> bool
-    ensures { result ≡ same_of (stack_in s) (label_at numbers.now place).stack }
-{
-    let cells = s.cells;
-    same_from(cells, s.top, numbers, place)
-}
-
-// Whether l is on top of a stack, and the rest equals a label's.
-pub fn same_below(s: Stack, l: u32, numbers: &[u32], place: u32) -> bool
-    ensures { result ≡ same_of (stack_in s) (l ∷ (label_at numbers.now place).stack) }
-{
-    let cells = s.cells;
-    let top = s.top;
-    if top < 16 {
-        if cells[top] == l {
-            return same_from(cells, top + 1, numbers, place);
-        }
-        return false;
-    }
-    false
-}
-
-// A label's stack, pushed from its last label up.
-fn label_stack(numbers: &[u32], place: u32) -> Stack
-    ensures { stack_in result ≡ (label_at numbers.now place).stack }
-{
-    let first = place as usize;
-    let mut left = at_most(STACK, number_at(numbers, first + 1)) as usize;
-    let mut top = 16;
-    let mut cells = [0; 16];
-    while 0 < left {
-        left -= 1;
-        top -= 1;
-        cells[top] = number_at(numbers, first + 2 + left);
-    }
-    Stack { top, cells }
-}
-
-// A label's context.
-pub fn enter(numbers: &[u32], place: u32) -> Held
-    ensures { context_in result ≡ entered (label_at numbers.now place) }
-{
-    Held {
-        level: number_at(numbers, place as usize),
-        stack: label_stack(numbers, place),
-        registers: label_registers(numbers, place),
-    }
-}
-
-// The context of the walk's start, where nothing is listed yet.
-pub fn nothing() -> Held
-    ensures { context_in result ≡ context_of 0 [] no_registers }
-{
-    Held {
-        level: 0,
-        stack: Stack {
-            top: 16,
-            cells: [0; 16],
-        },
-        registers: no_registers(),
+    // Puts a label on top of the stack.
+    pub fn push(&mut self, l: u32)
+        requires { length (stack_in self.old.stack) < Limits.STACK }
+        ensures { context_in self.new ≡ context_of self.old.level (l ∷ stack_in self.old.stack) self.old.registers }
+    {
+        self.stack.push(l);
     }
 }

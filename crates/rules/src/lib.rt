@@ -4,10 +4,11 @@
 #![tactic(auto)]
 
 mod contexts;
-pub mod numbers;
+mod labels;
 mod rules;
+mod stacks;
 
-pub use contexts::{
-    Held, Slot, Stack, depth, enter, is_exactly, label_depth, nothing, slot_at, with_slot,
-};
-pub use rules::{bnz, cjmp, compute, compute_immediate, cpush, halt, jump, load, store, unless};
+pub use contexts::{Held, Slot, set_slot, slot_at};
+pub use labels::Label;
+pub use rules::{bnz, cjmp, compute, compute_immediate, cpush, halt, jump, load, require, store};
+pub use stacks::Stack;

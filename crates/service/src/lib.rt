@@ -7,5 +7,5 @@ pub mod numbers;
 mod serving;
 mod sizing;
 
-pub use serving::{Service, longest_room, serve};
+pub use serving::{Served, longest_room, serve};
 pub use sizing::{right_sizes, sizes};

@@ -1,56 +1,42 @@
 // The desk call on lent words: packet, items, 35, 30, 34, rows, fields, registers, run.
 ghost use Rattle.std.specs.Prelude.{◌≡◌, ◌≤◌, true, length, replicate};
+ghost use Rattle.refusals.specs.Refusals.{verdict_in};
+ghost use Rattle.machine.specs.Run.{refusal_of};
 ghost use Rattle.listing.specs.Limits;
 ghost use Rattle.listing.specs.Parts.{items_in};
 ghost use Rattle.eraser.specs.Erase.{needed_of};
-ghost use Rattle.service.specs.Desk.{later_fault, serve_by, desk_call, service_of, code_for, ran_of, ran_call, desk_of};
+ghost use Rattle.service.specs.Desk.{later_fault, serve_by, desk_call, code_for, ran_of, ran_call, desk_of};
+ghost use Rattle.start.specs.Start.{passed};
+ghost use Rattle.service.specs.Served.{service_in, fault_in, desk_fault};
 
-use crate::numbers::DOES_NOT_FIT;
 use crate::sizing::{right_sizes, sizes};
-use checker::Checked;
-use listing::limits::{BYTES, TOO_LONG};
-use start::Fault;
+use listing::ReadError;
+use listing::limits::BYTES;
+use refusals::{Fault, Refusal};
 
-// What the desk answers: a refusal's number or a run's status, the refusal's place, the count of words
-// acted on, and the registers.
-#[derive(Clone, Copy)]
-pub struct Service {
-    pub number: u8,
-    pub place: usize,
+// What the desk serves: the status that the run ended with, the count of words acted on, and the registers.
+#[derive(Clone, Copy, Debug, PartialEq, Eq)]
+pub struct Served {
+    pub status: u8,
     pub count: u32,
     pub regs: [u32; 16],
 }
 
-// A refusal: the count is 0 and the registers are the start's.
-fn refused(number: u8, place: usize, regs: [u32; 16]) -> Service
-    ensures { result ≡ service_of number place 0 regs }
-{
-    Service {
-        number,
-        place,
-        count: 0,
-        regs,
-    }
-}
-
 // The refusals behind the items': sizes, and then the start's.
+#[tactic(auto, using(crate::specs::DeskLaws::sizings))]
 fn later_fault(
     numbers: &[u32],
     code: usize,
     heap: &[u32],
     blocks: &[u32],
-    regs: [u32; 16],
+    regs: &[u32; 16],
     budget: u32,
-) -> Fault
-    ensures { result ≡ later_fault numbers.now code true heap.now blocks.now regs budget }
+) -> Result<(), Fault>
+    ensures { verdict_in result ≡ later_fault numbers.now code true heap.now blocks.now regs.now budget }
 {
-    let needed = eraser::needed(numbers);
     let right = right_sizes(heap.len(), blocks.len(), true);
-    let size = sizes(needed, code, right, budget);
-    if size.number == 0 {
-        return start::check(numbers, heap, blocks, &regs);
-    }
-    size
+    sizes(eraser::needed(numbers), code, right, budget)?;
+    start::check(numbers, heap, blocks, regs)
 }
 
 // Erases a listing's numbers into a buffer that the code fits, and runs it.
@@ -60,23 +46,29 @@ fn run_numbers(
     heap: &mut [u32],
     regs: [u32; 16],
     budget: u32,
-) -> Service
-    requires { needed_of (items_in numbers.now) ≤ length code.old }
-    ensures { desk_call result code.new heap.new ≡ ran_call (ran_of numbers.now heap.old regs budget) (code_for numbers.now) code.old }
+) -> Result<Served, Fault>
+    requires fits { needed_of (items_in numbers.now) ≤ length code.old }
+    requires within { refusal_of (needed_of (items_in numbers.now)) (length heap.old) budget ≡ 0 }
+    ensures served { desk_call (service_in result regs) code.new heap.new ≡ ran_call (ran_of numbers.now heap.old regs budget) (code_for numbers.now) code.old }
+    ensures unrefused { fault_in result ≡ passed }
 {
     let n = eraser::erase(numbers, code) as usize;
-    let ran = machine::run(&code[..n], heap, regs, budget);
-    let state = ran.state;
-    let after = state.regs;
-    Service {
-        number: state.status,
-        place: 0,
-        count: ran.count,
-        regs: after,
+    match machine::run(&code[..n], heap, regs, budget) {
+        Ok(ran) => {
+            let state = ran.state;
+            let after = state.regs;
+            Ok(Served {
+                status: state.status,
+                count: ran.count,
+                regs: after,
+            })
+        }
+        Err(refusal) => Err(Fault { refusal, place: 0 }),
     }
 }
 
 // Serves a listing's numbers.
+#[tactic(auto, using(crate::specs::DeskLaws::servings))]
 fn serve_numbers(
     numbers: &[u32],
     code: &mut [u32],
@@ -84,14 +76,12 @@ fn serve_numbers(
     blocks: &[u32],
     regs: [u32; 16],
     budget: u32,
-) -> Service
-    ensures { desk_call result code.new heap.new ≡ serve_by (later_fault numbers.now (length code.old) true heap.old blocks.now regs budget) numbers.now code.old heap.old regs budget }
+) -> Result<Served, Fault>
+    ensures served { desk_call (service_in result regs) code.new heap.new ≡ serve_by (later_fault numbers.now (length code.old) true heap.old blocks.now regs budget) numbers.now code.old heap.old regs budget }
+    ensures refused { fault_in result ≡ later_fault numbers.now (length code.old) true heap.old blocks.now regs budget }
 {
-    let fault = later_fault(numbers, code.len(), heap, blocks, regs, budget);
-    if fault.number == 0 {
-        return run_numbers(numbers, code, heap, regs, budget);
-    }
-    refused(fault.number, fault.place, regs)
+    later_fault(numbers, code.len(), heap, blocks, &regs, budget)?;
+    run_numbers(numbers, code, heap, regs, budget)
 }
 
 // Room for the numbers of the longest packet.
@@ -109,16 +99,23 @@ pub fn serve(
     blocks: &[u32],
     regs: [u32; 16],
     budget: u32,
-) -> Service
-    ensures { desk_call result code.new heap.new ≡ desk_of packet.now code.old heap.old blocks.now regs budget }
+) -> Result<Served, Fault>
+    ensures served { desk_call (service_in result regs) code.new heap.new ≡ desk_of packet.now code.old heap.old blocks.now regs budget }
+    ensures refused { fault_in result ≡ desk_fault packet.now (length code.old) heap.old blocks.now regs budget }
 {
     if BYTES < packet.len() {
-        return refused(TOO_LONG, 0, regs);
+        return Err(Fault {
+            refusal: Refusal::TooLong,
+            place: 0,
+        });
     }
     let mut room = longest_room();
     match checker::check(packet, &mut room) {
-        Checked::Accepted(n) => serve_numbers(&room[..n], code, heap, blocks, regs, budget),
-        Checked::Refused(k, place) => refused(k, place, regs),
-        Checked::NoRoom => refused(DOES_NOT_FIT, 0, regs),
+        Ok(n) => serve_numbers(&room[..n], code, heap, blocks, regs, budget),
+        Err(ReadError::Refused(fault)) => Err(fault),
+        Err(ReadError::NoRoom) => Err(Fault {
+            refusal: Refusal::DoesNotFit,
+            place: 0,
+        }),
     }
 }

@@ -7,7 +7,8 @@ use intake::{answer, packet_room};
 
 fn main(rt: HostRuntime) {
     let mut packet = packet_room();
-    answer(
+    // What could not be done is told on standard error.
+    let _ = answer(
         &mut rt.stdin(),
         &mut rt.stdout(),
         &mut rt.stderr(),

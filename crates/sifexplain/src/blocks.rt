@@ -1,88 +1,117 @@
-// What was wanted of labels and of the list's end, and what was found: refusals 10, 11, 21 and 22.
-use crate::out::{say_end, say_piece};
-use crate::places::{first_unplaced, placed_by};
-use crate::refusals::say_rule;
+// What was wanted of labels and of the list's end, and what was found.
+use crate::contexts::Labels;
+use crate::packet::Packet;
+use crate::stacks::label_stack;
 use crate::stands::item_byte;
-use crate::words::say_item;
-use rules::numbers::{NEVER_PLACED, NO_LABEL, OPEN_END, PLACED_TWICE};
-
-// The texts of this file. An item is said with its place as the refused one, the last or one before.
-pub(crate) const ITEM: u32 = 0;
-
-pub(crate) const LAST: u32 = 1;
-
-const BEFORE: u32 = 2;
-
-const FIRST: u32 = 3;
-
-const BEHIND: u32 = 4;
-
-const ENDING: u32 = 5;
-
-const NOT_PLACED: u32 = 6;
-
-const PLACING: u32 = 7;
-
-const FOUND: u32 = 8;
-
-fn tell(out: &impl Print, text: u32, a: u32, b: u32) {
-    say_piece(
-        out,
-        b"Item #, at byte # of the packet: |\
-        At the end of the list, behind item #, at byte # of the packet: |\
-        .\nFound: item #, at byte # of the packet: |\
-        Wanted: a label as the first item|\
-        Wanted: a label behind |\
-        Wanted: halt, jmp or cjmp as the last item|\
-        Wanted: L# placed by no item before|\
-        Wanted: an item that places L#.\nFound: none.\n|\
-        .\nFound: ",
-        text,
-        a,
-        b,
-        0,
-        0,
-    );
-}
+use crate::words::Line;
+use listing::Item;
+use std::fmt;
 
 // An item by its number, its place and its words.
-pub(crate) fn say_placed_item(out: &impl Print, text: u32, packet: &[u8], numbers: &[u32], i: u32) {
-    tell(out, text, i, item_byte(packet, numbers, i));
-    say_item(out, numbers, i);
+#[derive(Clone, Copy)]
+pub struct Numbered<'a> {
+    pub packet: Packet<'a>,
+    pub i: usize,
 }
 
-// An item as it is found.
-fn say_found_item(out: &impl Print, numbers: &[u32], i: u32) {
-    tell(out, FOUND, 0, 0);
-    say_item(out, numbers, i);
-    say_end(out);
-}
-
-pub(crate) fn say_label_due(out: &impl Print, numbers: &[u32], i: u32) {
-    say_rule(out, NO_LABEL);
-    if i == 0 {
-        tell(out, FIRST, 0, 0);
-    } else {
-        tell(out, BEHIND, 0, 0);
-        say_item(out, numbers, i - 1);
+impl Numbered<'_> {
+    pub fn item(&self) -> Item {
+        self.packet.item(self.i)
     }
-    say_found_item(out, numbers, i);
+
+    pub fn line(&self) -> Line {
+        Line(self.item())
+    }
+
+    // The label that the item places or names, 0 for none.
+    fn label(&self) -> u32 {
+        match self.item() {
+            Item::Jmp(l) | Item::Bnz(_, l) | Item::Cpush(l) | Item::Cjmp(l) | Item::Label(l) => l,
+            _ => 0,
+        }
+    }
 }
 
-pub(crate) fn say_placed_twice(out: &impl Print, packet: &[u8], numbers: &[u32], l: u32, i: u32) {
-    say_rule(out, PLACED_TWICE);
-    tell(out, NOT_PLACED, l, 0);
-    say_placed_item(out, BEFORE, packet, numbers, placed_by(numbers, l, i));
-    say_end(out);
+impl fmt::Display for Numbered<'_> {
+    fn fmt<W: fmt::Write>(&self, f: &mut fmt::Formatter<W>) -> fmt::Result {
+        let Numbered { packet, i } = *self;
+        let byte = item_byte(packet, i);
+        let line = self.line();
+        write!(f, "{i}, at byte {byte} of the packet: {line}")
+    }
 }
 
-pub(crate) fn say_open_end(out: &impl Print, numbers: &[u32], last: u32) {
-    say_rule(out, OPEN_END);
-    tell(out, ENDING, 0, 0);
-    say_found_item(out, numbers, last);
+// A label is due where this item stands.
+#[derive(Clone, Copy)]
+pub struct LabelDue<'a>(pub Numbered<'a>);
+
+impl fmt::Display for LabelDue<'_> {
+    fn fmt<W: fmt::Write>(&self, f: &mut fmt::Formatter<W>) -> fmt::Result {
+        let Numbered { packet, i } = self.0;
+        match i.checked_sub(1) {
+            None => write!(f, "Wanted: a label as the first item")?,
+            Some(i) => write!(f, "Wanted: a label behind {}", Line(packet.item(i)))?,
+        }
+        write!(f, ".\nFound: {}.\n", self.0.line())
+    }
 }
 
-pub(crate) fn say_never_placed(out: &impl Print, numbers: &[u32]) {
-    say_rule(out, NEVER_PLACED);
-    tell(out, PLACING, first_unplaced(numbers), 0);
+// The label that this item places is placed before.
+#[derive(Clone, Copy)]
+pub struct PlacedTwice<'a>(pub Numbered<'a>);
+
+impl fmt::Display for PlacedTwice<'_> {
+    fn fmt<W: fmt::Write>(&self, f: &mut fmt::Formatter<W>) -> fmt::Result {
+        let Numbered { packet, i } = self.0;
+        let l = self.0.label();
+        let before = Numbered {
+            packet,
+            i: packet.placed_by(l, i).unwrap_or(i),
+        };
+        write!(
+            f,
+            "Wanted: L{l} placed by no item before.\nFound: item {before}.\n"
+        )
+    }
+}
+
+// The label that this item places is the first, and has a stack.
+#[derive(Clone, Copy)]
+pub struct FirstStack<'a>(pub Numbered<'a>);
+
+impl fmt::Display for FirstStack<'_> {
+    fn fmt<W: fmt::Write>(&self, f: &mut fmt::Formatter<W>) -> fmt::Result {
+        let l = self.0.label();
+        let stack = label_stack(self.0.packet, l);
+        let labels = Labels(&stack);
+        write!(
+            f,
+            "Wanted: stack empty, for L{l} is first.\nFound: {labels}.\n"
+        )
+    }
+}
+
+// This item, the last, goes on.
+#[derive(Clone, Copy)]
+pub struct OpenEnd<'a>(pub Numbered<'a>);
+
+impl fmt::Display for OpenEnd<'_> {
+    fn fmt<W: fmt::Write>(&self, f: &mut fmt::Formatter<W>) -> fmt::Result {
+        let line = self.0.line();
+        write!(
+            f,
+            "Wanted: halt, jmp or cjmp as the last item.\nFound: {line}.\n"
+        )
+    }
+}
+
+// A label of this packet is placed by no item.
+#[derive(Clone, Copy)]
+pub struct NeverPlaced<'a>(pub Packet<'a>);
+
+impl fmt::Display for NeverPlaced<'_> {
+    fn fmt<W: fmt::Write>(&self, f: &mut fmt::Formatter<W>) -> fmt::Result {
+        let l = self.0.first_unplaced();
+        write!(f, "Wanted: an item that places L{l}.\nFound: none.\n")
+    }
 }

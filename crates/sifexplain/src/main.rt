@@ -1,70 +1,58 @@
 // The explaining program: reads a packet from standard input, prints the checking program's line, and where
 // that is a refusal says below it what was refused and why. The line and the verdict are the proved ones; the
-// words below are made from the packet's numbers and decide nothing. Read items.rt first, and faults.rt for
-// packets that hold no listing.
+// words below are made from the packet's numbers and decide nothing. Read explanation.rt first.
 
 #![tactic(auto)]
 
 mod blocks;
+mod contexts;
 mod dues;
-mod faults;
+mod explanation;
+mod fields;
+mod findings;
 mod flows;
-mod items;
-mod out;
-mod parts;
-mod places;
-mod refusals;
-mod registers;
+mod found;
+mod packet;
+mod ranges;
+mod rules_in_words;
 mod stacks;
 mod stands;
-mod uses;
 mod walked;
 mod words;
 
-use crate::faults::explain_fault;
-use crate::items::explain_item;
-use crate::stands::counted;
-use checker::Checked;
+use crate::explanation::Explanation;
+use crate::packet::Packet;
 use intake::{answer, packet_room};
 use lines::numbers_room;
-use listing::limits::TOO_LONG;
+use listing::ReadError;
 
-// The reader's refusals have numbers up to 6, and bytes as places; the checker's have items.
-fn explain_refusal(out: &impl Print, packet: &[u8], numbers: &[u32], number: u8, place: u32) {
-    if number <= TOO_LONG {
-        explain_fault(out, packet, numbers, number, place);
-    } else {
-        explain_item(out, packet, numbers, number, place);
-    }
-}
-
-fn explain(out: &impl Print, packet: &[u8]) {
+// Where it cannot be written the verdict's line, which comes first, has told so already, and nothing more is said
+// of it here.
+fn explain(out: &impl Print, bytes: &[u8]) {
     let mut room = numbers_room();
-    match checker::check(packet, &mut room) {
-        Checked::Accepted(_) => (),
-        Checked::Refused(number, place) => explain_refusal(
-            out,
-            packet,
-            &room,
-            number,
-            counted(place),
-        ),
-        Checked::NoRoom => (),
-    }
+    let Err(ReadError::Refused(fault)) = checker::check(bytes, &mut room) else {
+        return;
+    };
+    let explanation = Explanation {
+        packet: Packet {
+            bytes,
+            numbers: &room,
+        },
+        fault,
+    };
+    let _ = print!(out; "{explanation}");
 }
 
 fn main(rt: HostRuntime) {
     let mut packet = packet_room();
-    let input = answer(
+    let answered = answer(
         &mut rt.stdin(),
         &mut rt.stdout(),
         &mut rt.stderr(),
         &mut packet,
         b"sifexplain",
     );
-    if input.failed {
-        return;
+    if let Ok(n) = answered {
+        explain(&rt, &packet[..n]);
     }
-    let n = input.count;
-    explain(&rt, &packet[..n]);
 }

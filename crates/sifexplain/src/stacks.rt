@@ -1,86 +1,39 @@
-// What was wanted of stacks and what was found: refusals 12, 17 and 20.
-use crate::out::{say_end, say_piece};
-use crate::parts::say_stack;
-use crate::places::label_place;
-use crate::refusals::say_rule;
-use crate::stands::counted;
-use crate::uses::{CJMP, HALT};
-use rules::numbers::FIRST_STACK;
-use rules::{Stack, depth, enter};
-
-// The texts of this file.
-const JUMP: u32 = 0;
-
-const ON_TOP: u32 = 1;
-
-const NO_STACK: u32 = 2;
-
-const FIRST: u32 = 3;
-
-const PUSH: u32 = 4;
-
-const OF_LABEL: u32 = 5;
-
-const FOUND: u32 = 6;
-
-fn tell(out: &impl Print, text: u32, n: u32) {
-    say_piece(
-        out,
-        b"Wanted: |\
-        Wanted: L# on top, and below it |\
-        Wanted: stack empty|\
-        Wanted: stack empty, for L# is first|\
-        Wanted: at most 15 labels before a cpush.\nFound: #.\n|\
-        , that of L#|\
-        .\nFound: ",
-        text,
-        n,
-        0,
-        0,
-        0,
-    );
-}
+// What was wanted of stacks and what was found.
+use crate::contexts::{Here, Labels};
+use crate::packet::Packet;
+use listing::Item;
+use rules::Stack;
+use std::fmt;
 
 // A label's own stack.
-fn label_stack(numbers: &[u32], l: u32) -> Stack {
-    let c = enter(numbers, label_place(numbers, l));
-    c.stack
+pub fn label_stack(packet: Packet, l: u32) -> Stack {
+    packet.label(l).enter().stack
 }
 
-// A stack as it is found.
-fn say_found_stack(out: &impl Print, s: Stack) {
-    tell(out, FOUND, 0);
-    say_stack(out, s);
-    say_end(out);
-}
-
-// A jump, or a fall, to a label, or a cjmp.
-fn say_target_stack(out: &impl Print, wanted: u32, s: Stack, l: u32, numbers: &[u32]) {
-    tell(out, wanted, l);
-    say_stack(out, label_stack(numbers, l));
-    tell(out, OF_LABEL, l);
-    say_found_stack(out, s);
-}
-
-fn say_halt(out: &impl Print, s: Stack) {
-    tell(out, NO_STACK, 0);
-    say_found_stack(out, s);
-}
-
-pub(crate) fn say_stack_rule(out: &impl Print, s: Stack, shows: u32, l: u32, numbers: &[u32]) {
-    match shows {
-        HALT => say_halt(out, s),
-        CJMP => say_target_stack(out, ON_TOP, s, l, numbers),
-        _ => say_target_stack(out, JUMP, s, l, numbers),
+// Of a halt, a cjmp, and a jump or a fall to a label.
+pub fn say_stack_rule<W: fmt::Write>(f: &mut fmt::Formatter<W>, here: &Here) -> fmt::Result {
+    write!(f, "Wanted: ")?;
+    match here.item {
+        Item::Cjmp(l) => {
+            write!(f, "L{l} on top, and below it ")?;
+            say_own_stack(f, here.packet, l)?;
+        }
+        Item::Jmp(l) | Item::Bnz(_, l) | Item::Label(l) => say_own_stack(f, here.packet, l)?,
+        _ => write!(f, "stack empty")?,
     }
+    write!(f, ".\nFound: {}.\n", Labels(&here.held.stack))
 }
 
-pub(crate) fn say_push_past(out: &impl Print, s: Stack) {
-    tell(out, PUSH, counted(depth(s)));
+fn say_own_stack<W: fmt::Write>(f: &mut fmt::Formatter<W>, packet: Packet, l: u32) -> fmt::Result {
+    let stack = label_stack(packet, l);
+    let labels = Labels(&stack);
+    write!(f, "{labels}, that of L{l}")
 }
 
-pub(crate) fn say_first_stack(out: &impl Print, l: u32, numbers: &[u32]) {
-    say_rule(out, FIRST_STACK);
-    tell(out, FIRST, l);
-    say_found_stack(out, label_stack(numbers, l));
+pub fn say_push_past<W: fmt::Write>(f: &mut fmt::Formatter<W>, here: &Here) -> fmt::Result {
+    let labels = here.held.stack.depth();
+    write!(
+        f,
+        "Wanted: at most 15 labels before a cpush.\nFound: {labels}.\n"
+    )
 }

@@ -1,76 +1,44 @@
 // The context in which an item stands: what the checker's walk has when it comes there. The verdict does not
 // depend on it; it is only told.
-use crate::places::{Row, behind, label_place, shape_of, shape_place};
-use crate::uses::{BLOCK, PUSHED, REACHED, REGISTER, Uses, WRITTEN, uses_at};
-use checker::{changed, field_kind, raised};
-use listing::items_place;
-use rules::{Held, Stack, enter, nothing, slot_at};
+use crate::contexts::Here;
+use crate::packet::Packet;
+use listing::Item;
+use listing::limits::STACK;
+use rules::Held;
 
-// The context with a label on top of its stack; a full stack, which is refused before, stays.
-fn pushed(c: Held, l: u32) -> Held {
-    let registers = c.registers;
-    let stack = c.stack;
-    let mut cells = stack.cells;
-    let top = stack.top;
-    if 0 < top {
-        if top < 17 {
-            cells[top - 1] = l;
-            return Held {
-                level: c.level,
-                stack: Stack {
-                    top: top - 1,
-                    cells,
-                },
-                registers,
-            };
+impl<'a> Here<'a> {
+    // Item i, where it stands.
+    pub fn new(packet: Packet<'a>, i: usize) -> Here<'a> {
+        let mut here = Here {
+            packet,
+            item: packet.item(i),
+            held: Held::nothing(),
+        };
+        for item in packet.items().take(i) {
+            here.go_past(item);
+        }
+        here
+    }
+
+    // Takes the context past an item that is not refused. Behind a jmp, a halt and a cjmp it does not matter: only a
+    // label can come there. A full stack, to which a push is refused, stays.
+    fn go_past(&mut self, item: Item) {
+        match item {
+            Item::Compute(_, rd, _, _) | Item::ComputeImmediate(_, rd, _, _) => {
+                self.held.change(rd, 0)
+            }
+            Item::Load(rd, rs, c) => {
+                let kind = self.field(rs, c).slot.kind;
+                self.held.change(rd, kind);
+            }
+            Item::Bnz(rs, _) => self.held.raise(rs),
+            Item::Label(l) => self.held = self.packet.label(l).enter(),
+            Item::Cpush(l) => {
+                if self.held.stack.depth() < STACK as usize {
+                    self.held.push(l);
+                }
+            }
+            Item::Halt | Item::Jmp(_) | Item::Store(_, _, _) | Item::Cjmp(_) => {}
         }
     }
-    c
-}
-
-// The context behind a load.
-fn loaded(c: Held, rd: u32, rs: u32, field: u32, numbers: &[u32]) -> Held {
-    let registers = c.registers;
-    let s = slot_at(registers, rs);
-    changed(
-        c,
-        rd,
-        field_kind(numbers, shape_place(numbers, shape_of(s.kind)), field),
-    )
-}
-
-// The context behind bnz, whose register raises the pc level, and behind a label.
-fn at_label(c: Held, u: Uses, numbers: &[u32]) -> Held {
-    if u.sources == 0 {
-        enter(numbers, label_place(numbers, u.label))
-    } else {
-        raised(c, u.rs)
-    }
-}
-
-// The context behind an item that is not refused. Behind a jmp it does not matter: only a label can come there.
-fn context_behind(c: Held, u: Uses, numbers: &[u32]) -> Held {
-    let shows = u.shows;
-    match shows {
-        REGISTER => changed(c, u.rd, 0),
-        WRITTEN => c,
-        REACHED => loaded(c, u.rd, u.rs, u.field, numbers),
-        BLOCK => at_label(c, u, numbers),
-        PUSHED => pushed(c, u.label),
-        _ => c,
-    }
-}
-
-// The context at item i.
-pub(crate) fn context_at(numbers: &[u32], i: u32) -> Held {
-    let mut held = nothing();
-    let mut at = items_place(numbers) + 1;
-    let mut left = i;
-    while 0 < left {
-        let next = context_behind(held, uses_at(numbers, at), numbers);
-        held = next;
-        at = behind(numbers, Row::Items, at);
-        left -= 1;
-    }
-    held
 }

@@ -1,59 +1,63 @@
 // Items in words: the names of 01's item table, an i behind for the immediate forms, registers as r0 to
 // r15, labels as L and a number.
-use crate::out::say_piece;
-use crate::places::item_place;
-use listing::number_at;
+use listing::Item;
+use std::fmt;
 
 // The packet's number of an immediate is so much more than the immediate.
-const ABOVE: u32 = 32768;
+const ABOVE: i64 = 32768;
 
-// The name of an item number.
-pub(crate) fn say_name(out: &impl Print, n: u32) {
-    say_piece(
-        out,
-        b"halt|jmp|bnz|load|store|add|sub|and|xor|slt|addi|subi|andi|xori|slti|cpush|cjmp|label",
-        n,
-        0,
-        0,
-        0,
-        0,
-    );
-}
-
-// The form of an item number's operands, the last of which is given.
-fn form(n: u32, last: u32) -> u32 {
+// The operation of an item number, in either form.
+fn operation(n: u32) -> &'static str {
     match n {
-        0..=4 => n,
-        5..=9 => 5,
-        10..=14 => if last < ABOVE { 6 } else { 3 },
-        _ => 1,
+        5 | 10 => "add",
+        6 | 11 => "sub",
+        7 | 12 => "and",
+        8 | 13 => "xor",
+        _ => "slt",
     }
 }
 
-// The last operand of an item number, without its sign where it is an immediate.
-fn size(n: u32, last: u32) -> u32 {
-    if n < 10 {
-        last
-    } else if last < ABOVE {
-        ABOVE - last
-    } else {
-        last - ABOVE
+// An item's name.
+#[derive(Clone, Copy)]
+pub struct Name(pub Item);
+
+impl fmt::Display for Name {
+    fn fmt<W: fmt::Write>(&self, f: &mut fmt::Formatter<W>) -> fmt::Result {
+        match self.0 {
+            Item::Halt => write!(f, "halt"),
+            Item::Jmp(_) => write!(f, "jmp"),
+            Item::Bnz(_, _) => write!(f, "bnz"),
+            Item::Load(_, _, _) => write!(f, "load"),
+            Item::Store(_, _, _) => write!(f, "store"),
+            Item::Compute(n, _, _, _) => write!(f, "{}", operation(n)),
+            Item::ComputeImmediate(n, _, _, _) => write!(f, "{}i", operation(n)),
+            Item::Cpush(_) => write!(f, "cpush"),
+            Item::Cjmp(_) => write!(f, "cjmp"),
+            Item::Label(_) => write!(f, "label"),
+        }
     }
 }
 
-// Item i, as its line of text will have it.
-pub(crate) fn say_item(out: &impl Print, numbers: &[u32], i: u32) {
-    let at = item_place(numbers, i) as usize;
-    let n = number_at(numbers, at);
-    let last = number_at(numbers, at + 3);
-    say_name(out, n);
-    say_piece(
-        out,
-        b"| L#| r#, L#| r#, r#, #| r#, #, r#| r#, r#, r#| r#, r#, -#",
-        form(n, last),
-        number_at(numbers, at + 1),
-        number_at(numbers, at + 2),
-        size(n, last),
-        0,
-    );
+// An item, as its line of text will have it.
+#[derive(Clone, Copy)]
+pub struct Line(pub Item);
+
+impl fmt::Display for Line {
+    fn fmt<W: fmt::Write>(&self, f: &mut fmt::Formatter<W>) -> fmt::Result {
+        let name = Name(self.0);
+        match self.0 {
+            Item::Halt => write!(f, "{name}"),
+            Item::Jmp(l) | Item::Cpush(l) | Item::Cjmp(l) | Item::Label(l) => {
+                write!(f, "{name} L{l}")
+            }
+            Item::Bnz(rs, l) => write!(f, "{name} r{rs}, L{l}"),
+            Item::Load(rd, rs, c) => write!(f, "{name} r{rd}, r{rs}, {c}"),
+            Item::Store(rd, c, rs) => write!(f, "{name} r{rd}, {c}, r{rs}"),
+            Item::Compute(_, rd, rs, rt) => write!(f, "{name} r{rd}, r{rs}, r{rt}"),
+            Item::ComputeImmediate(_, rd, rs, number) => {
+                let immediate = i64::from(number) - ABOVE;
+                write!(f, "{name} r{rd}, r{rs}, {immediate}")
+            }
+        }
+    }
 }

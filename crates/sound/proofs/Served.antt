@@ -12,8 +12,7 @@ use Rattle.machine.specs.Run.{Outcome, acted, outcome_at, outcome_from}
 use Rattle.listing.specs.Listing.{Listing}
 use Rattle.listing.specs.Packet.{numbers_in}
 use Rattle.listing.specs.Parts.{shapes_in, items_in}
-use Rattle.checker.specs.declared.packets.Checked.{Checked}
-use Rattle.checker.specs.declared.packets.Checked.TheVariants.{Accepted}
+use Rattle.checker.specs.Checked.{Checked, Accepted}
 use Rattle.checker.specs.Check.{check_of}
 use Rattle.eraser.specs.Erase.{needed_of}
 use Rattle.start.specs.Start.{rows_of, first_listed, start_of}

@@ -6,7 +6,7 @@ use Rattle.listing.specs.Listing.{Listing, Ranges}
 use Rattle.listing.specs.Packet.{numbers_in, taken_of}
 use Rattle.listing.specs.Parts.{listing_in}
 use Rattle.listing.specs.Theorems.{taken_is_listed}
-use Rattle.checker.specs.declared.packets.Checked.TheVariants.{Accepted}
+use Rattle.checker.specs.Checked.{Accepted}
 use Rattle.checker.specs.Judgement.{WellTyped}
 use Rattle.checker.specs.Check.{verdict_in, check_of}
 use Rattle.checker.specs.CheckLaws.{accepted_taken, verdict_zero}

@@ -4,7 +4,7 @@ use Rattle.levels.specs.SetLaws.{sets}
 use Rattle.machine.specs.Numbers.{HALTED, RUNNING}
 use Rattle.machine.specs.Step.{Machine, machine_at}
 use Rattle.listing.specs.Packet.{numbers_in}
-use Rattle.checker.specs.declared.packets.Checked.TheVariants.{Accepted}
+use Rattle.checker.specs.Checked.{Accepted}
 use Rattle.checker.specs.Check.{check_of}
 use Rattle.start.specs.Start.{rows_of, first_listed}
 use Rattle.service.specs.Desk.{later_fault, ran_of, DeskCall, desk_of}

@@ -4,20 +4,20 @@ use Rattle.std.proofs.Common.{arith, sym, ap, subst, ◌∙◌, eqb-true, eq-eqb
 use mathlib.Core.Logic.Iff
 use Rattle.choice.specs.Pick.{pick, is_true, is_equal, each_way, if_equal, if_less}
 use Rattle.listing.specs.Listing.{Field, Register, Each}
-use Rattle.start.specs.declared.faults.Fault.{Fault}
+use Rattle.refusals.specs.Refusals.{Verdict}
 use Rattle.start.specs.Numbers.{BAD_REGISTER}
 use Rattle.start.specs.Start.{Row, shape_of, fault_of, passed, unless, or_else, first_of, any_of, is_row, is_block, is_of_kind, BlockWord, word_of, words_from, words_of, word_fault, block_fault, fields_fault, register_fault, registers_fault}
 use Rattle.start.specs.Meaning.{row_in, field_of, field_in, Block, Word, Holds, HoldsRegister, GoodWords, GoodRegisters}
 
 -- an answer that is no refusal
-abbrev pub Clear : Fault → Type 0
+abbrev pub Clear : Verdict → Type 0
 Clear f = f.number ≡ 0
 
 pub differ : {A : Type 0} → false ≡ true → A
 differ e = let z : ◌≡◌ {A = ℕ} 0 1 = cc in absurd (omega arith)
 
 -- a refusal where a test fails, and another behind it
-pub pick_clear : (t : Bool) (g : Fault) (number place : ℕ) → 0 < number → Clear (pick t g (fault_of number place)) ↔ ((t ≡ true) × Clear g)
+pub pick_clear : (t : Bool) (g : Verdict) (number place : ℕ) → 0 < number → Clear (pick t g (fault_of number place)) ↔ ((t ≡ true) × Clear g)
 unfolding pick
 pick_clear true g number place h = (λ e. (refl, e), λ p. p.1)
 pick_clear false g number place h = (λ e. absurd (omega arith), λ p. differ p.0)
@@ -26,14 +26,14 @@ pub unless_clear : (number place : ℕ) (ok : Bool) → 0 < number → Clear (un
 unfolding unless
 unless_clear number place ok h = let both = pick_clear ok passed number place h in (λ e. (both.0 e).0, λ e. both.1 (e, refl))
 
-pub else_clear : (f g : Fault) → Clear (or_else f g) ↔ (Clear f × Clear g)
+pub else_clear : (f g : Verdict) → Clear (or_else f g) ↔ (Clear f × Clear g)
 unfolding or_else
 else_clear f g = (
-  if_equal (λ (r : Fault). Clear r → Clear f × Clear g) f.number 0 g f (λ e c. (e, c)) (λ n c. absurd (n c)),
-  λ p. ap (λ (r : Fault). r.number) (sym (is_equal f.number 0 g g f p.0 refl)) ∙ p.1,
+  if_equal (λ (r : Verdict). Clear r → Clear f × Clear g) f.number 0 g f (λ e c. (e, c)) (λ n c. absurd (n c)),
+  λ p. ap (λ (r : Verdict). r.number) (sym (is_equal f.number 0 g g f p.0 refl)) ∙ p.1,
 )
 
-pub first_clear : {A : Type 0} (f : A → Fault) (l : List A) → Clear (first_of f l) ↔ Each (λ x. Clear (f x)) l
+pub first_clear : {A : Type 0} (f : A → Verdict) (l : List A) → Clear (first_of f l) ↔ Each (λ x. Clear (f x)) l
 unfolding first_of
 first_clear f [] = (λ e. tt, λ e. refl)
 first_clear f (x ∷ l) =
@@ -42,11 +42,11 @@ first_clear f (x ∷ l) =
     (λ e. ((both.0 e).0, rest.0 (both.0 e).1), λ p. both.1 (p.0, rest.1 p.1))
 
 -- an answer that is clear is the passing one
-pub else_proper : (f g : Fault) → (Clear g → g ≡ passed) → Clear (or_else f g) → or_else f g ≡ passed
+pub else_proper : (f g : Verdict) → (Clear g → g ≡ passed) → Clear (or_else f g) → or_else f g ≡ passed
 unfolding or_else
-else_proper f g = if_equal (λ (r : Fault). (Clear g → g ≡ passed) → Clear r → r ≡ passed) f.number 0 g f (λ e p. p) (λ n p c. absurd (n c))
+else_proper f g = if_equal (λ (r : Verdict). (Clear g → g ≡ passed) → Clear r → r ≡ passed) f.number 0 g f (λ e p. p) (λ n p c. absurd (n c))
 
-pub first_proper : {A : Type 0} (f : A → Fault) (l : List A) → Clear (first_of f l) → first_of f l ≡ passed
+pub first_proper : {A : Type 0} (f : A → Verdict) (l : List A) → Clear (first_of f l) → first_of f l ≡ passed
 unfolding first_of
 first_proper f [] e = refl
 first_proper f (x ∷ l) e = else_proper (f x) (first_of f l) (first_proper f l) e
@@ -66,7 +66,7 @@ each_same : {A : Type 0} (P Q : A → Type 0) → ((x : A) → P x ↔ Q x) → 
 each_same P Q s [] = (λ e. tt, λ e. tt)
 each_same P Q s (x ∷ l) = (λ e. ((s x).0 e.0, (each_same P Q s l).0 e.1), λ e. ((s x).1 e.0, (each_same P Q s l).1 e.1))
 
-pub clear_each : {A : Type 0} (f : A → Fault) (Q : A → Type 0) → ((x : A) → Clear (f x) ↔ Q x) → (l : List A) → Clear (first_of f l) ↔ Each Q l
+pub clear_each : {A : Type 0} (f : A → Verdict) (Q : A → Type 0) → ((x : A) → Clear (f x) ↔ Q x) → (l : List A) → Clear (first_of f l) ↔ Each Q l
 clear_each f Q s l = Iff.trans (first_clear f l) (each_same (λ x. Clear (f x)) Q s l)
 
 -- the base of a block

@@ -4,6 +4,7 @@ pub mod Start  -- which start passes, and the first refusal with its place
 pub mod Meaning  -- what a passing start means
 pub mod Refusal  -- what a refusal means: it is the first
 pub mod PartLaws  -- where a shape's fields and the first label's registers stand among the numbers, for the proofs of code
+pub mod PairLaws  -- the rows of a block table as pairs of words, and what stands in a list at an index
 pub mod SearchLaws  -- one law for each way through the code of the searches
 pub mod ClearLaws  -- each test is clear of a fault exactly where its statement of Meaning holds
 pub mod RowLaws  -- the same of the rows

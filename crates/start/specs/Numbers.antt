@@ -1,4 +1,4 @@
--- 01, "Refusal numbers": the start's refusals, each named once; src/numbers.rt has the same for the code.
+-- 01, "Refusal numbers": the start's refusals, each named once; the code names them by crate refusals.
 use Rattle.std.specs.Prelude.{ℕ}
 
 abbrev pub BAD_ROW : ℕ

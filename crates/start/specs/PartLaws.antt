@@ -1,9 +1,10 @@
 -- Where a shape's fields and the first label's registers stand among the numbers: one law for each way through the code that finds them. `shapes`, `listeds` and `firsts` hold the laws for a search.
 use Rattle.std.specs.Prelude.{ℕ, ◌+◌, ◌<◌, ◌≤◌, ◌≡◌, length}
 use Rattle.std.proofs.Common.{arith, ◌∙◌}
-use Rattle.std.proofs.Math.Path.{sym, ap}
+use Rattle.std.proofs.Math.Path.{refl, sym, ap}
 use mathlib.Core.List.{List, []}
 use Rattle.listing.specs.declared.items.Item.{Item}
+use Rattle.listing.specs.declared.items.Item.TheVariants.{Halt, Jmp, Bnz, Load, Store, Compute, ComputeImmediate, Cpush, Cjmp, Label}
 use Rattle.listing.specs.Limits.{SHAPES, FIELDS, LABELS, STACK, REGISTERS, ITEMS}
 use Rattle.listing.specs.Listing.{Field, Register, LabelContext}
 use Rattle.listing.specs.Parts.{parts_from, behind, count_at, field_at, shape_at, behind_shape, register_at, registers_at, label_at, behind_label, item_at, behind_item, labels_place, items_place, shapes_in, labels_in, items_in}
@@ -57,9 +58,24 @@ module _ (ns : List ℕ) (l n place : ℕ) (stands : place ≡ labels_place ns) 
 
 pub ruleset listeds = (label_there, label_not_there)
 
--- an item that is known by its parts
-pub as_item : (labels : List LabelContext) (i x : Item) (r : List Register) → i ≡ x → listed_at labels x ≡ r → listed_at labels i ≡ r
-as_item labels i x r e p = ap (listed_at labels) e ∙ p
+-- an item that places a label, and one that places none
+module _ (labels : List LabelContext) (i : Item) where
+  pub label_lists : (l : ℕ) (r : List Register) → i ≡ Label l → listed_by labels l ≡ r → listed_at labels i ≡ r
+  unfolding listed_at
+  label_lists l r e p = ap (listed_at labels) e ∙ p
+
+pub other_lists : (ns : List ℕ) (labels : List LabelContext) (i : Item) → ((l : ℕ) → i ≡ Label l → ⊥) → listed_at labels i ≡ registers_in ns 0 0
+unfolding listed_at parts_from
+other_lists ns labels Halt n = refl
+other_lists ns labels (Jmp l) n = refl
+other_lists ns labels (Bnz rs l) n = refl
+other_lists ns labels (Load rd rs c) n = refl
+other_lists ns labels (Store rd c rs) n = refl
+other_lists ns labels (Compute op rd rs rt) n = refl
+other_lists ns labels (ComputeImmediate op rd rs i) n = refl
+other_lists ns labels (Cpush l) n = refl
+other_lists ns labels (Cjmp l) n = refl
+other_lists ns labels (Label l) n = absurd (n l refl)
 
 -- item 0, where there are n items
 module _ (ns : List ℕ) (n place : ℕ) (stands : place ≡ items_place ns) (counted : n ≡ count_at ITEMS ns place) where

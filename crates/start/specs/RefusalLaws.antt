@@ -8,7 +8,7 @@ use mathlib.Core.List.{List, [], ◌∷◌}
 use Rattle.std.proofs.Math.ListN.{get_or}
 use Rattle.choice.specs.Pick.{each_way, if_equal, if_less}
 use Rattle.listing.specs.Listing.{Field, Register}
-use Rattle.start.specs.declared.faults.Fault.{Fault}
+use Rattle.refusals.specs.Refusals.{Verdict}
 use Rattle.start.specs.Numbers.{BAD_ROW, BAD_FIELD, BAD_REGISTER}
 use Rattle.start.specs.Start.{Row, fault_of, unless, or_else, first_of, good_row, least_after, rows_from, words_of, word_fault, block_fault, fields_fault, register_fault, registers_fault, rows_fault, start_in}
 use Rattle.start.specs.Meaning.{row_in, Word, Holds, GoodRows, GoodWords}
@@ -16,29 +16,29 @@ use Rattle.start.specs.Refusal.{FirstBadRow, FirstBadWord, FirstBadRegister, reg
 use Rattle.start.specs.ClearLaws.{Clear, differ, pick_clear, unless_clear, no_word, HoldsWord, word_clear, block_clear, held_there, held_in, word_there, words_clear, register_clear}
 use Rattle.start.specs.RowLaws.{rows_clear, word_before}
 
-abbrev Faulty : Fault → Type 0
+abbrev Faulty : Verdict → Type 0
 Faulty f = Clear f → ⊥
 
 -- of two answers
-else_by : (P : Fault → Type 0) (f g : Fault) → (Faulty f → P f) → (Clear f → Faulty g → P g) → Faulty (or_else f g) → P (or_else f g)
+else_by : (P : Verdict → Type 0) (f g : Verdict) → (Faulty f → P f) → (Clear f → Faulty g → P g) → Faulty (or_else f g) → P (or_else f g)
 unfolding or_else
-else_by P f g p q = if_equal (λ (r : Fault). Faulty r → P r) f.number 0 g f q (λ n. p)
+else_by P f g p q = if_equal (λ (r : Verdict). Faulty r → P r) f.number 0 g f q (λ n. p)
 
 -- a refusal unless a test holds
 unless_faulty : (number place : ℕ) (ok : Bool) → Faulty (unless number place ok) → unless number place ok ≡ fault_of number place
 unfolding unless
 unless_faulty number place ok =
-    each_way (λ (r : Fault). Faulty r → r ≡ fault_of number place) ok _ _ (λ e n. absurd (n refl)) (λ e n. refl)
+    each_way (λ (r : Verdict). Faulty r → r ≡ fault_of number place) ok _ _ (λ e n. absurd (n refl)) (λ e n. refl)
 
 -- the first in a row
-record First {A : Type 0} (f : A → Fault) (d : A) (l : List A) (r : Fault) : Type 0 where
+record First {A : Type 0} (f : A → Verdict) (d : A) (l : List A) (r : Verdict) : Type 0 where
   n : ℕ
   inside : n < length l
   front : (j : ℕ) → j < n → Clear (f (get_or l j d))
   fails : Faulty (f (get_or l n d))
   same : r ≡ f (get_or l n d)
 
-module _ {A : Type 0} (f : A → Fault) (d : A) where
+module _ {A : Type 0} (f : A → Verdict) (d : A) where
   front_more : (x : A) (l : List A) (n : ℕ) → Clear (f x) → ((j : ℕ) → j < n → Clear (f (get_or l j d))) → (j : ℕ) → j < suc n → Clear (f (get_or (x ∷ l) j d))
   front_more x l n c p zero h = c
   front_more x l n c p (suc j) h = p j (omega arith)
@@ -55,7 +55,7 @@ module _ {A : Type 0} (f : A → Fault) (d : A) where
 
 -- the rows
 module _ (shapes : List (List Field)) (words : ℕ) where
-  record FirstRow (i least : ℕ) (rows : List Row) (r : Fault) : Type 0 where
+  record FirstRow (i least : ℕ) (rows : List Row) (r : Verdict) : Type 0 where
     n : ℕ
     inside : n < length rows
     front : Clear (rows_from shapes words i least (take n rows))
@@ -67,8 +67,8 @@ module _ (shapes : List (List Field)) (words : ℕ) where
   rows_faulty [] i least = λ n. absurd (n refl)
   rows_faulty (r ∷ rows) i least =
       let test = good_row shapes words least r in
-      let cut : ℕ → Fault = λ n. rows_from shapes words (i + 1) (least_after shapes r) (take n rows) in
-      each_way (λ (f : Fault). Faulty f → FirstRow i least (r ∷ rows) f) test _ _
+      let cut : ℕ → Verdict = λ n. rows_from shapes words (i + 1) (least_after shapes r) (take n rows) in
+      each_way (λ (f : Verdict). Faulty f → FirstRow i least (r ∷ rows) f) test _ _
       (λ e c.
       let found = rows_faulty rows (i + 1) (least_after shapes r) c in
       let place : i + 1 + found.n ≡ i + suc found.n = omega arith in
@@ -164,7 +164,7 @@ listed_refused rows listed regs f =
 
 -- all three
 module _ (shapes : List (List Field)) (listed : List Register) (heap : List ℕ) (rows : List Row) (regs : List ℕ) where
-  abbrev RefusedBy : Fault → Type 0
+  abbrev RefusedBy : Verdict → Type 0
   RefusedBy f = Refused shapes listed heap rows regs f.number f.place
 
   module _ (good : GoodRows shapes (length heap) rows) where

@@ -1,119 +1,79 @@
--- Laws for the code of the start check: one for each way through a loop. The whole answer is that of what is left; `mores` takes what is left apart, and `searches`, `faults`, `bads`, `goods` and `zeros` hold the ways for a search.
-use Rattle.std.specs.Prelude.{ℕ, ◌+◌, ◌-◌, ◌<◌, ◌≤◌, ◌≡◌, Bool, false, List, [], ◌∷◌, length, get_or, ltb, eqb}
+-- Laws for the code of the start check: one for each way through a loop. The whole answer is that of what is left; `faults`, `bads`, `goods` and `zeros` hold the ways for a search.
+use Rattle.std.specs.Prelude.{ℕ, ◌+◌, ◌<◌, ◌≤◌, ◌≡◌, Bool, false, Err, List, length, get_or, drop, ltb, eqb}
 use Rattle.std.proofs.Common.{arith, ◌∙◌}
 use Rattle.std.proofs.Math.Path.{refl, sym, ap}
 use Rattle.std.proofs.Math.Bool.{true}
-use borrow.Author.Tests.{ne_eqb, ltb-true, ltb-false}
-use Rattle.choice.specs.Pick.{is_true, is_false, is_equal, not_equal, is_less, not_less}
+use Rattle.std.proofs.lemmas.List.{drop_all}
+use Rattle.choice.specs.Pick.{pick, is_true, is_false, is_equal, not_equal, is_less, not_less}
+use Rattle.refusals.specs.declared.Fault.{Fault}
+use Rattle.refusals.specs.Refusals.{Verdict, verdict_in}
+use Rattle.refusals.specs.RefusalLaws.{some_number}
 use Rattle.listing.specs.Listing.{Field, Register}
 use Rattle.listing.specs.Limits.{SHAPES}
-use Rattle.listing.specs.Parts.{parts_from, count_at, field_at, register_at, shapes_in}
-use Rattle.listing.specs.PartLaws.{parts_more, parts_none, parts_length}
-use Rattle.start.specs.declared.faults.Fault.{Fault}
+use Rattle.listing.specs.Parts.{count_at, field_at, shapes_in}
+use Rattle.listing.specs.PartLaws.{parts_length}
 use Rattle.start.specs.Numbers.{BAD_ROW, BAD_REGISTER}
-use Rattle.start.specs.Start.{Row, row_at, shape_of, size_of, fault_of, passed, unless, or_else, first_of, good_row, least_after, rows_from, any_of, word_of, words_from, register_fault, registers_fault}
-use Rattle.start.specs.PartLaws.{fields_in, registers_in, shapes_counted}
+use Rattle.start.specs.Start.{Row, shape_of, size_of, fault_of, passed, unless, or_else, first_of, good_row, least_after, rows_from, register_fault, registers_fault}
+use Rattle.start.specs.ClearLaws.{unless_clear}
+use Rattle.start.specs.PartLaws.{fields_in, shapes_counted}
+use Rattle.start.specs.PairLaws.{row_of, Stands}
 
-abbrev pub row_of : ℕ → ℕ → Row
-row_of base s = record { base = base; shape = s }
-
--- so many rows from a place on
-abbrev pub rows_left : List ℕ → ℕ → ℕ → List Row
-rows_left blocks at left = parts_from (row_at blocks) (λ p. p + 2) at left
-
--- a list that starts with an element
-pub record Starts {A : Type 0} (x : A) (l : List A) : Type 0 where
-  rest : List A
-  split : l ≡ x ∷ rest
-
--- what is left is the next one and the rest, or nothing
-parts_start : {A : Type 0} (part : ℕ → A) (next : ℕ → ℕ) (at left : ℕ) → 0 < left → Starts (part at) (parts_from part next at left)
-parts_start part next at left h = record { rest = parts_from part next (next at) (left - 1); split = parts_more part next at left h }
-
-pub rows_start : (blocks : List ℕ) (at left : ℕ) → 0 < left → Starts (row_at blocks at) (rows_left blocks at left)
-rows_start blocks = parts_start (row_at blocks) (λ p. p + 2)
-
-pub registers_start : (ns : List ℕ) (at left : ℕ) → 0 < left → Starts (register_at ns at) (registers_in ns at left)
-registers_start ns = parts_start (register_at ns) (λ p. p + 3)
-
-module _ (ns : List ℕ) (at left address : ℕ) where
-  pub words_more : 0 < left → words_from address (fields_in ns at left) ≡ word_of address (field_at ns at) ∷ words_from (address + 1) (fields_in ns (at + 2) (left - 1))
-  unfolding words_from
-  words_more h = ap (words_from address) (parts_more (field_at ns) (λ p. p + 2) at left h)
-
-  pub words_start : 0 < left → Starts (word_of address (field_at ns at)) (words_from address (fields_in ns at left))
-  words_start h = record { rest = words_from (address + 1) (fields_in ns (at + 2) (left - 1)); split = words_more h }
-
-  pub words_none : left ≤ 0 → words_from address (fields_in ns at left) ≡ []
-  unfolding words_from
-  words_none h = ap (words_from address) (parts_none (field_at ns) (λ p. p + 2) at left h)
-
-pub ruleset mores = (refl, parts_more, parts_none, rows_start, registers_start, words_more, words_start, words_none)
-
--- a search for an element that meets a test
-module _ {A : Type 0} (t : A → Bool) (whole : Bool) (l : List A) (inv : whole ≡ any_of t l) where
-  pub any_turn : (x : A) (rest : List A) (b : Bool) → b ≡ t x → l ≡ x ∷ rest → b ≡ false → whole ≡ any_of t rest
-  unfolding any_of
-  any_turn x rest b e s p = inv ∙ ap (any_of t) s ∙ sym (is_false (t x) _ true (any_of t rest) (sym e ∙ p) refl)
-
-  pub any_found : (x : A) (b : Bool) → b ≡ t x → Starts x l → b ≡ true → true ≡ whole
-  unfolding any_of
-  any_found x b e s p = sym (inv ∙ ap (any_of t) s.split ∙ sym (is_true (t x) _ true (any_of t s.rest) (sym e ∙ p) refl))
-
-  pub any_none : l ≡ [] → false ≡ whole
-  unfolding any_of
-  any_none s = sym (inv ∙ ap (any_of t) s)
-
-pub ruleset searches = (any_turn, any_found, any_none)
-
--- the first of two faults: v is the first
-module _ (f g v : Fault) (e : v ≡ f) where
-  pub first_clear : (r : Fault) → v.number ≡ 0 → r ≡ g → r ≡ or_else f g
+-- the first of two verdicts: the first passes, or is a fault
+module _ (f g : Verdict) where
+  pub first_passes : (r : Verdict) → passed ≡ f → r ≡ g → r ≡ or_else f g
   unfolding or_else
-  first_clear r p = is_equal f.number 0 r g f (ap (λ (y : Fault). y.number) (sym e) ∙ p)
+  first_passes r e = is_equal f.number 0 r g f (ap (λ (y : Verdict). y.number) (sym e))
 
-  pub first_stands : (v.number ≡ 0 → ⊥) → v ≡ or_else f g
+  pub first_stands : (e : Fault) → verdict_in (Err e) ≡ f → verdict_in (Err e) ≡ or_else f g
   unfolding or_else
-  first_stands p = not_equal f.number 0 v g f (λ z. p (ap (λ (y : Fault). y.number) e ∙ z)) e
+  first_stands e p = not_equal f.number 0 (verdict_in (Err e)) g f (λ z. some_number e.refusal (sym (ap (λ (y : Verdict). y.number) p ∙ z))) p
 
-pub ruleset orders = (first_clear, first_stands)
+pub ruleset orders = (first_passes, first_stands)
 
 -- a search for the first fault
-module _ {A : Type 0} (f : A → Fault) (whole : Fault) (l : List A) (inv : whole ≡ first_of f l) where
-  pub fault_turn : (x : A) (rest : List A) (v : Fault) → v ≡ f x → l ≡ x ∷ rest → v.number ≡ 0 → whole ≡ first_of f rest
+module _ {A : Type 0} (f : A → Verdict) (whole : Verdict) (l : List A) (i : ℕ) (inv : whole ≡ first_of f (drop i l)) where
+  pub fault_turn : (x : A) → Stands l i x → passed ≡ f x → whole ≡ first_of f (drop (i + 1) l)
   unfolding first_of
-  fault_turn x rest v e s p =
-      inv ∙ ap (first_of f) s ∙ sym (first_clear (f x) (first_of f rest) v e _ p refl)
+  fault_turn x s p = inv ∙ ap (first_of f) s.split ∙ sym (first_passes (f x) _ _ p refl)
 
-  pub fault_found : (x : A) (v : Fault) → v ≡ f x → Starts x l → (v.number ≡ 0 → ⊥) → v ≡ whole
+  pub fault_found : (x : A) → Stands l i x → (e : Fault) → verdict_in (Err e) ≡ f x → verdict_in (Err e) ≡ whole
   unfolding first_of
-  fault_found x v e s p =
-      sym (inv ∙ ap (first_of f) s.split ∙ sym (first_stands (f x) (first_of f s.rest) v e p))
+  fault_found x s e p = sym (inv ∙ ap (first_of f) s.split ∙ sym (first_stands (f x) _ e p))
 
-  pub fault_none : l ≡ [] → passed ≡ whole
+  pub fault_none : length l ≤ i → passed ≡ whole
   unfolding first_of
-  fault_none s = sym (inv ∙ ap (first_of f) s)
+  fault_none h = sym (inv ∙ ap (first_of f) (drop_all i l h))
 
 pub ruleset faults = (fault_turn, fault_found, fault_none)
 
+-- a test that a refusal goes by
+test_passes : (number place : ℕ) (ok : Bool) → 0 < number → passed ≡ unless number place ok → ok ≡ true
+test_passes number place ok h e = (unless_clear number place ok h).0 (ap (λ (v : Verdict). v.number) (sym e))
+
+test_fails : (number place : ℕ) (ok : Bool) (e : Fault) → verdict_in (Err e) ≡ unless number place ok → (ok ≡ false) × (verdict_in (Err e) ≡ fault_of number place)
+unfolding unless pick
+test_fails number place true e p = absurd (some_number e.refusal (sym (ap (λ (v : Verdict). v.number) p)))
+test_fails number place false e p = (refl, p)
+
 -- a search for the first bad row
-module _ (shapes : List (List Field)) (words i least : ℕ) (l : List Row) (whole : Fault) (inv : whole ≡ rows_from shapes words i least l) where
-  pub row_turn : (r : Row) (rest : List Row) (b : Bool) (after : ℕ) → b ≡ good_row shapes words least r → l ≡ r ∷ rest → b ≡ true → after ≡ least_after shapes r
-      → whole ≡ rows_from shapes words (i + 1) after rest
-  unfolding rows_from
-  row_turn r rest b after e s p q =
-      inv
-      ∙ ap (rows_from shapes words i least) s
-      ∙ sym (is_true (good_row shapes words least r) _ _ (fault_of BAD_ROW i) (sym e ∙ p) (ap (λ (n : ℕ). rows_from shapes words (i + 1) n rest) q))
+module _ (shapes : List (List Field)) (words i least : ℕ) (l : List Row) (whole : Verdict) (inv : whole ≡ rows_from shapes words i least (drop i l)) where
+  module _ (r : Row) (s : Stands l i r) (b : Bool) (e : b ≡ good_row shapes words least r) where
+    pub row_turn : passed ≡ unless BAD_ROW i b → (after : ℕ) → after ≡ least_after shapes r → whole ≡ rows_from shapes words (i + 1) after (drop (i + 1) l)
+    unfolding rows_from
+    row_turn p after q =
+        inv
+        ∙ ap (rows_from shapes words i least) s.split
+        ∙ sym (is_true (good_row shapes words least r) _ _ (fault_of BAD_ROW i) (sym e ∙ test_passes _ _ b (omega arith) p) (ap (λ (n : ℕ). rows_from shapes words (i + 1) n (drop (i + 1) l)) q))
 
-  pub row_found : (r : Row) (b : Bool) → b ≡ good_row shapes words least r → Starts r l → b ≡ false → fault_of BAD_ROW i ≡ whole
-  unfolding rows_from
-  row_found r b e s p =
-      sym (inv ∙ ap (rows_from shapes words i least) s.split ∙ sym (is_false (good_row shapes words least r) _ (rows_from shapes words (i + 1) (least_after shapes r) s.rest) _ (sym e ∙ p) refl))
+    pub row_found : (v : Fault) → verdict_in (Err v) ≡ unless BAD_ROW i b → verdict_in (Err v) ≡ whole
+    unfolding rows_from
+    row_found v p =
+        let fails = test_fails BAD_ROW i b v p in
+        sym (inv ∙ ap (rows_from shapes words i least) s.split ∙ sym (is_false (good_row shapes words least r) _ (rows_from shapes words (i + 1) (least_after shapes r) (drop (i + 1) l)) _ (sym e ∙ fails.0) fails.1))
 
-  pub row_none : l ≡ [] → passed ≡ whole
+  pub row_none : length l ≤ i → passed ≡ whole
   unfolding rows_from
-  row_none s = sym (inv ∙ ap (rows_from shapes words i least) s)
+  row_none h = sym (inv ∙ ap (rows_from shapes words i least) (drop_all i l h))
 
 pub ruleset bads = (row_turn, row_found, row_none)
 
@@ -127,15 +87,13 @@ module _ (ns : List ℕ) (base s at count : ℕ) (fields : shape_of (shapes_in n
   size_is = ap length fields ∙ parts_length (field_at ns) (λ p. p + 2) at count
 
   module _ (words least : ℕ) (high : least ≤ base) where
-    pub row_out : (b : Bool) → b ≡ ltb words (base + count) → b ≡ true → false ≡ good_row (shapes_in ns) words least (row_of base s)
+    pub row_out : words < base + count → false ≡ good_row (shapes_in ns) words least (row_of base s)
     unfolding good_row
-    row_out b e p = not_less base least _ _ _ high (is_less words (base + size_of (shapes_in ns) (row_of base s)) _ _ _ (omega (arith, size_is, ltb-true words (base + count) (sym e ∙ p))) refl)
+    row_out h = not_less base least _ _ _ high (is_less words (base + size_of (shapes_in ns) (row_of base s)) _ _ _ (omega (arith, size_is)) refl)
 
-    pub row_in : (b : Bool) (n : ℕ) → b ≡ ltb words (base + count) → b ≡ false → n ≡ count_at SHAPES ns 1 → ltb s n ≡ good_row (shapes_in ns) words least (row_of base s)
+    pub row_in : (n : ℕ) → base + count ≤ words → n ≡ count_at SHAPES ns 1 → ltb s n ≡ good_row (shapes_in ns) words least (row_of base s)
     unfolding good_row
-    row_in b n q p e =
-        not_less base least _ _ _ high
-        (not_less words (base + size_of (shapes_in ns) (row_of base s)) _ _ _ (omega (arith, size_is, ltb-false words (base + count) (sym q ∙ p))) (ap (ltb s) (shapes_counted ns s n e)))
+    row_in n h e = not_less base least _ _ _ high (not_less words (base + size_of (shapes_in ns) (row_of base s)) _ _ _ (omega (arith, size_is)) (ap (ltb s) (shapes_counted ns s n e)))
 
   pub least_next : count < 1 → base + 1 ≡ least_after (shapes_in ns) (row_of base s)
   unfolding least_after
@@ -149,12 +107,15 @@ pub ruleset goods = (row_low, row_out, row_in, least_next, least_behind)
 
 -- r0, and then the listed registers
 module _ (rows : List Row) (listed : List Register) (regs : List ℕ) (zero : ℕ) (read : zero ≡ get_or regs 0 0) where
-  pub r0_holds : (r : Fault) → zero ≡ 0 → r ≡ first_of (register_fault rows regs) listed → r ≡ registers_fault rows listed regs
-  unfolding registers_fault unless
-  r0_holds r z = first_clear _ _ passed (is_equal (get_or regs 0 0) 0 _ _ _ (sym read ∙ z) refl) r refl
+  r0_read : (v : Verdict) → v ≡ unless BAD_REGISTER 0 (eqb zero 0) → v ≡ unless BAD_REGISTER 0 (eqb (get_or regs 0 0) 0)
+  r0_read v e = e ∙ ap (λ (n : ℕ). unless BAD_REGISTER 0 (eqb n 0)) read
 
-  pub r0_not : (zero ≡ 0 → ⊥) → fault_of BAD_REGISTER 0 ≡ registers_fault rows listed regs
-  unfolding registers_fault unless
-  r0_not z = first_stands _ _ (fault_of BAD_REGISTER 0) (is_false (eqb (get_or regs 0 0) 0) _ _ _ (ne_eqb (get_or regs 0 0) 0 (λ e. z (read ∙ e))) refl) (λ e. absurd (omega arith))
+  pub r0_holds : passed ≡ unless BAD_REGISTER 0 (eqb zero 0) → registers_fault rows listed regs ≡ first_of (register_fault rows regs) listed
+  unfolding registers_fault
+  r0_holds e = sym (first_passes _ _ _ (r0_read _ e) refl)
+
+  pub r0_not : (e : Fault) → verdict_in (Err e) ≡ unless BAD_REGISTER 0 (eqb zero 0) → verdict_in (Err e) ≡ registers_fault rows listed regs
+  unfolding registers_fault
+  r0_not e p = first_stands _ _ e (r0_read _ p)
 
 pub ruleset zeros = (r0_holds, r0_not)

@@ -5,7 +5,7 @@ use Rattle.listing.specs.declared.items.Item.{Item}
 use Rattle.listing.specs.declared.items.Item.TheVariants.{Halt, Jmp, Bnz, Load, Store, Compute, ComputeImmediate, Cpush, Cjmp, Label}
 use Rattle.listing.specs.Listing.{Field, Register, LabelContext}
 use Rattle.listing.specs.Parts.{parts_from, shapes_in, labels_in, items_in}
-use Rattle.start.specs.declared.faults.Fault.{Fault}
+use Rattle.refusals.specs.Refusals.{Verdict}
 use Rattle.start.specs.Numbers.{BAD_ROW, BAD_FIELD, BAD_REGISTER}
 
 -- a row of the block table: a base and a shape number, both words
@@ -28,20 +28,20 @@ abbrev pub size_of : List (List Field) → Row → ℕ
 size_of shapes r = length (shape_of shapes r.shape)
 
 -- a refusal's number and place; 0 and 0 is passed
-abbrev pub fault_of : ℕ → ℕ → Fault
+abbrev pub fault_of : ℕ → ℕ → Verdict
 fault_of number place = record { number = number; place = place }
 
-abbrev pub passed : Fault
+abbrev pub passed : Verdict
 passed = fault_of 0 0
 
 -- a refusal unless a test holds; the first of two; the first in a row
-unfoldable pub unless : ℕ → ℕ → Bool → Fault
+unfoldable pub unless : ℕ → ℕ → Bool → Verdict
 unless number place ok = pick ok passed (fault_of number place)
 
-unfoldable pub or_else : Fault → Fault → Fault
+unfoldable pub or_else : Verdict → Verdict → Verdict
 or_else f g = pick (eqb f.number 0) g f
 
-unfoldable pub first_of : {A : Type 0} → (A → Fault) → List A → Fault
+unfoldable pub first_of : {A : Type 0} → (A → Verdict) → List A → Verdict
 first_of f [] = passed
 first_of f (x ∷ xs) = or_else (f x) (first_of f xs)
 
@@ -56,7 +56,7 @@ unfoldable pub least_after : List (List Field) → Row → ℕ
 least_after shapes r = r.base + pick (ltb (size_of shapes r) 1) 1 (size_of shapes r)
 
 -- the first bad row, from row i on
-unfoldable pub rows_from : List (List Field) → ℕ → ℕ → ℕ → List Row → Fault
+unfoldable pub rows_from : List (List Field) → ℕ → ℕ → ℕ → List Row → Verdict
 rows_from shapes words i least [] = passed
 rows_from shapes words i least (r ∷ rows) =
     pick (good_row shapes words least r) (rows_from shapes words (i + 1) (least_after shapes r) rows) (fault_of BAD_ROW i)
@@ -92,10 +92,10 @@ abbrev pub words_of : List (List Field) → Row → List BlockWord
 words_of shapes r = words_from r.base (shape_of shapes r.shape)
 
 -- a pointer field holds the base of a block of its shape
-unfoldable pub word_fault : List Row → List ℕ → BlockWord → Fault
+unfoldable pub word_fault : List Row → List ℕ → BlockWord → Verdict
 word_fault rows heap w = unless BAD_FIELD w.address (is_of_kind rows w.field.kind (get_or heap w.address 0))
 
-unfoldable pub block_fault : List (List Field) → List Row → List ℕ → Row → Fault
+unfoldable pub block_fault : List (List Field) → List Row → List ℕ → Row → Verdict
 block_fault shapes rows heap r = first_of (word_fault rows heap) (words_of shapes r)
 
 -- 33. The registers that the first label lists, which in a listing stand by rising index; it is the label that item 0 places. None where item 0 is no label, or one that the listing does not have
@@ -122,25 +122,25 @@ abbrev pub first_listed : List ℕ → List Register
 first_listed numbers = listed_first (labels_in numbers) (items_in numbers)
 
 -- a pointer that it lists is the base of a block of its shape
-unfoldable pub register_fault : List Row → List ℕ → Register → Fault
+unfoldable pub register_fault : List Row → List ℕ → Register → Verdict
 register_fault rows regs r = unless BAD_REGISTER r.index (is_of_kind rows r.kind (get_or regs r.index 0))
 
 -- the three in order: r0 holds 0, before the listed registers
-unfoldable pub rows_fault : List (List Field) → List Row → List ℕ → Fault
+unfoldable pub rows_fault : List (List Field) → List Row → List ℕ → Verdict
 rows_fault shapes rows heap = rows_from shapes (length heap) 0 0 rows
 
-unfoldable pub fields_fault : List (List Field) → List Row → List ℕ → Fault
+unfoldable pub fields_fault : List (List Field) → List Row → List ℕ → Verdict
 fields_fault shapes rows heap = first_of (block_fault shapes rows heap) rows
 
-unfoldable pub registers_fault : List Row → List Register → List ℕ → Fault
+unfoldable pub registers_fault : List Row → List Register → List ℕ → Verdict
 registers_fault rows listed regs = or_else (unless BAD_REGISTER 0 (eqb (get_or regs 0 0) 0)) (first_of (register_fault rows regs) listed)
 
-abbrev pub held_fault : List (List Field) → List Register → List ℕ → List Row → List ℕ → Fault
+abbrev pub held_fault : List (List Field) → List Register → List ℕ → List Row → List ℕ → Verdict
 held_fault shapes listed heap rows regs = or_else (fields_fault shapes rows heap) (registers_fault rows listed regs)
 
-unfoldable pub start_in : List (List Field) → List Register → List ℕ → List Row → List ℕ → Fault
+unfoldable pub start_in : List (List Field) → List Register → List ℕ → List Row → List ℕ → Verdict
 start_in shapes listed heap rows regs = or_else (rows_fault shapes rows heap) (held_fault shapes listed heap rows regs)
 
 -- what the start check answers
-abbrev pub start_of : List ℕ → List ℕ → List ℕ → List ℕ → Fault
+abbrev pub start_of : List ℕ → List ℕ → List ℕ → List ℕ → Verdict
 start_of numbers heap blocks regs = start_in (shapes_in numbers) (first_listed numbers) heap (rows_of blocks) regs

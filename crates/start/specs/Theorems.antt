@@ -3,7 +3,7 @@ use Rattle.std.specs.Prelude.{ℕ, ◌+◌, ◌<◌, ◌≤◌, ◌≡◌, List,
 use Rattle.std.proofs.Common.{arith, ap, subst}
 use Rattle.listing.specs.Listing.{Field}
 use Rattle.listing.specs.Parts.{shapes_in}
-use Rattle.start.specs.declared.faults.Fault.{Fault}
+use Rattle.refusals.specs.Refusals.{Verdict}
 use Rattle.start.specs.Start.{Row, rows_of, shape_of, first_listed, fault_of, passed, start_of}
 use Rattle.start.specs.Meaning.{field_of, field_in, Block, Word, GoodRows, Passing}
 use Rattle.start.specs.Refusal.{register_in, Refused}
@@ -22,7 +22,7 @@ module _ (numbers heap blocks regs : List ℕ) where
 
   -- a start that passes is a passing one
   pub passes_means : start_of numbers heap blocks regs ≡ passed → PassingStart
-  passes_means e = clear_means _ _ _ _ _ (ap (λ (f : Fault). f.number) e)
+  passes_means e = clear_means _ _ _ _ _ (ap (λ (f : Verdict). f.number) e)
 
   -- and a passing one passes
   pub means_passes : PassingStart → start_of numbers heap blocks regs ≡ passed
@@ -31,7 +31,7 @@ module _ (numbers heap blocks regs : List ℕ) where
   -- a refusal is the first
   pub refusal_is_first : (number place : ℕ) → 0 < number → start_of numbers heap blocks regs ≡ fault_of number place → RefusedStart number place
   refusal_is_first number place h e =
-      subst (λ (f : Fault). RefusedStart f.number f.place) e (start_refused _ _ _ _ _ (λ z. omega (arith, ap (λ (f : Fault). f.number) e)))
+      subst (λ (f : Verdict). RefusedStart f.number f.place) e (start_refused _ _ _ _ _ (λ z. omega (arith, ap (λ (f : Verdict). f.number) e)))
 
   -- its place is below any bound of the rows, the heap and the listed registers
   pub place_below : (number place top : ℕ) → RefusedStart number place → length (rows_of blocks) ≤ top → length heap ≤ top → 0 < top

@@ -4,14 +4,11 @@
 
 #![tactic(auto)]
 
+mod blocks;
 mod checking;
-mod faults;
 mod kinds;
-pub mod numbers;
-mod pointers;
 mod rows;
 mod spans;
-mod words;
+mod starts;
 
 pub use checking::check;
-pub use faults::Fault;

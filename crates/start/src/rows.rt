@@ -1,36 +1,50 @@
 // The rows of the block table, one by one: refusal 31.
 ghost use Rattle.std.specs.Prelude.{◌≡◌, ◌+◌, ltb};
 ghost use Rattle.listing.specs.Parts.{shapes_in};
-ghost use Rattle.start.specs.Start.{rows_of, rows_from, good_row, least_after};
-ghost use Rattle.start.specs.SearchLaws.{row_of};
+ghost use Rattle.refusals.specs.Refusals.{number_of, verdict_in};
+ghost use Rattle.start.specs.Start.{rows_of, rows_from, good_row, least_after, unless};
+ghost use Rattle.start.specs.PairLaws.{rows_in};
+ghost use Rattle.start.specs.PairLaws.{row_of};
 
-use crate::faults::Fault;
-use crate::numbers::BAD_ROW;
 use crate::spans::shape;
 use listing::count_at;
 use listing::limits::SHAPES;
+use refusals::{Fault, Refusal};
 
-// Whether a block reaches past the end of a heap of so many words.
-fn reaches_past(words: usize, base: u32, size: u32) -> bool
-    ensures { result ≡ ltb words (base + size) }
+// The rows of a table, a base and a shape each; a last odd word is no row.
+#[tactic(auto, using(crate::specs::PairLaws::stands))]
+pub fn rows_of(blocks: &[u32]) -> &[[u32; 2]]
+    ensures { rows_in result.now ≡ rows_of blocks.now }
 {
-    words < base as usize + size as usize
+    let (rows, _) = blocks.as_chunks::<2>();
+    rows
+}
+
+// A refusal, unless a test holds.
+#[tactic(auto, unfolding(crate::specs::Start::unless, choice::specs::Pick::pick))]
+pub fn require(ok: bool, refusal: Refusal, place: usize) -> Result<(), Fault>
+    ensures { verdict_in result ≡ unless (number_of refusal) place ok }
+{
+    if ok {
+        Ok(())
+    } else {
+        Err(Fault { refusal, place })
+    }
 }
 
 // Whether a row is good behind good ones that leave it a least base.
+#[tactic(auto, using(crate::specs::SearchLaws::goods))]
 fn is_good_row(numbers: &[u32], words: usize, least: usize, base: u32, s: u32) -> bool
     ensures { result ≡ good_row (shapes_in numbers.now) words least (row_of base s) }
 {
-    if (base as usize) < least {
-        return false;
-    }
-    if reaches_past(words, base, shape(numbers, s).count) {
-        return false;
-    }
-    s < count_at(SHAPES, numbers, 1)
+    let size = shape(numbers, s).count;
+    least <= base as usize
+        && base as usize + size as usize <= words
+        && s < count_at(SHAPES, numbers, 1)
 }
 
 // The least base that a row leaves to the next.
+#[tactic(auto, using(crate::specs::SearchLaws::goods))]
 fn least_after(numbers: &[u32], base: u32, s: u32) -> usize
     ensures { result ≡ least_after (shapes_in numbers.now) (row_of base s) }
 {
@@ -43,30 +57,18 @@ fn least_after(numbers: &[u32], base: u32, s: u32) -> usize
 }
 
 // The first bad row, for a heap of so many words.
-pub fn rows_fault(numbers: &[u32], words: usize, blocks: &[u32]) -> Fault
-    ensures { result ≡ rows_from (shapes_in numbers.now) words 0 0 (rows_of blocks.now) }
+#[tactic(auto, using(crate::specs::SearchLaws::bads, crate::specs::PairLaws::stands))]
+pub fn check_rows(numbers: &[u32], words: usize, rows: &[[u32; 2]]) -> Result<(), Fault>
+    ensures { verdict_in result ≡ rows_from (shapes_in numbers.now) words 0 0 (rows_in rows.now) }
 {
-    let mut at = 0;
-    let mut left = blocks.len() / 2;
-    let mut i = 0;
     let mut least = 0;
-    while 0 < left {
-        let base = blocks[at];
-        let s = blocks[at + 1];
-        if is_good_row(numbers, words, least, base, s) {
-            least = least_after(numbers, base, s);
-            at += 2;
-            left -= 1;
-            i += 1;
-        } else {
-            return Fault {
-                number: BAD_ROW,
-                place: i,
-            };
-        }
+    for (place, &[base, s]) in rows.iter().enumerate() {
+        require(
+            is_good_row(numbers, words, least, base, s),
+            Refusal::BadRow,
+            place,
+        )?;
+        least = least_after(numbers, base, s);
     }
-    Fault {
-        number: 0,
-        place: 0,
-    }
+    Ok(())
 }

@@ -1,28 +1,34 @@
-use Rattle.checker.specs.WalkLaws.{turns, due_holds, write_turn}
-use native.Mathlib.Omega.{arith}
-use borrow.Author.Rules.{rules}
+use Rattle.std.proofs.Common.{ap, arith, ◌≡◌, length}
+use Rattle.std.proofs.lemmas.Result.{err_from_is_err_and}
+use Rattle.listing.specs.Parts.{items_in}
+use Rattle.listing.specs.Rest.{items_left}
+use Rattle.refusals.specs.Refusals.{verdict_in}
+use Rattle.checker.specs.States.{state_in}
+use Rattle.checker.specs.WalkLaws.{few_items, walk_begins, turn, stop, at_end}
 use Rattle.checker.proofs.walk.walk_items.Goals as goal
 
-pub loop-i-init : goal.loop-i-init
-loop-i-init c = (search (turns, rules), omega arith, omega arith, omega arith, omega arith)
+pub loop-item-init : goal.loop-item-init
+loop-item-init c =
+    let all : items_left c.into_iter-item-iterator.result ≡ items_in c.args.listing.now.numbers.now = cc in
+    (walk_begins c.args.listing.now.numbers.now (state_in c.start-standing.result) c.start-standing.result.place _ c.start-standing.ensures.state c.start-standing.ensures.place all, omega (arith, ap length all))
 
-pub loop-i-preserved-then-k-eq0 : goal.loop-i-preserved-then-k-eq0
-loop-i-preserved-then-k-eq0 c = (search (turns, rules), omega arith, omega arith, omega arith, omega arith)
+pub step-requires : goal.step-requires
+step-requires c = omega (arith, c.loop-item.invariant.1, ap length c.in-Some.ensures.steps, few_items c.args.listing.now.numbers.now)
 
-pub loop-i-preserved-then-rd-lt16 : goal.loop-i-preserved-then-rd-lt16
-loop-i-preserved-then-rd-lt16 c = (search (write_turn, rules), omega arith, omega arith, omega arith, omega arith)
+pub loop-item-preserved : goal.loop-item-preserved
+loop-item-preserved c = (
+  turn _ c.args.listing.now.numbers.now (state_in c.loop-item.standing) c.loop-item.standing.place _ c.loop-item.invariant.0 c.in-Some.item _ c.in-Some.ensures.steps
+      (state_in c.step.new.self) c.step.new.self.place c.in_ok-step.ensures.verdict c.in_ok-step.ensures.behind c.in_ok-step.ensures.place,
+  omega (arith, c.loop-item.invariant.1, ap length c.in-Some.ensures.steps, c.in_ok-step.ensures.place),
+)
 
-pub held_after-after-requires-clause-item_value : goal.held_after-after-requires-clause-item_value
-held_after-after-requires-clause-item_value c = search (due_holds, rules)
-
-pub loop-i-preserved : goal.loop-i-preserved
-loop-i-preserved c = (search (turns, rules), omega arith, omega arith, omega arith, omega arith)
-
-pub returns-else-k-eq0 : goal.returns-else-k-eq0
-returns-else-k-eq0 c = search (turns, rules)
-
-pub returns-else-k-eq0-2 : goal.returns-else-k-eq0-2
-returns-else-k-eq0-2 c = search (turns, rules)
+pub returns-in_err-step : goal.returns-in_err-step
+returns-in_err-step c =
+    let p = err_from_is_err_and c.from_residual.result c.from_residual.ensures.1 in
+    rw (p.1, p.2)
+    (stop _ c.args.listing.now.numbers.now (state_in c.loop-item.standing) c.loop-item.standing.place _ c.loop-item.invariant.0 c.in-Some.item _ c.in-Some.ensures.steps c.in_err-step.field-0.0 c.in_err-step.ensures.verdict)
 
 pub returns : goal.returns
-returns c = search (turns, rules)
+returns c =
+    at_end _ c.args.listing.now.numbers.now (state_in c.loop-item.standing) c.loop-item.standing.place _ c.loop-item.invariant.0 c.in-None.ensures.steps.0
+    (verdict_in c.end.result) c.args.n c.requires.n_value c.end.ensures

@@ -6,11 +6,11 @@ use Rattle.desk.proofs.desk_bytes.run_erased.Goals as goal
 pub slice_bounds-c-end : goal.slice_bounds-c-end
 slice_bounds-c-end c = search (erasings, rules)
 
-pub slice_bounds-spill_front-end : goal.slice_bounds-spill_front-end
-slice_bounds-spill_front-end c = search (erasings, rules)
+pub slice_bounds-spill-end : goal.slice_bounds-spill-end
+slice_bounds-spill-end c = search (erasings, rules)
 
-pub spill_front-requires : goal.spill_front-requires
-spill_front-requires c = search (erasings, rules)
+pub spill-requires : goal.spill-requires
+spill-requires c = search (erasings, rules)
 
 pub slice_bounds-c-end-2 : goal.slice_bounds-c-end-2
 slice_bounds-c-end-2 c = search (erasings, rules)

@@ -1,22 +1,14 @@
 -- `serve_bytes` refuses by sizes, or starts over the buffers.
-use Rattle.desk.specs.VansDeskLaws.{servings}
-use borrow.Author.Rules.{rules}
+use Rattle.std.proofs.Common.{refl}
+use Rattle.desk.specs.WorkLaws.{started_work}
+use Rattle.desk.specs.VansDeskLaws.{numbered, size_refuses, size_opens, size_place}
 use Rattle.desk.proofs.desk_bytes.serve_bytes.Goals as goal
 
-pub over_room-requires-clause-whole : goal.over_room-requires-clause-whole
-over_room-requires-clause-whole c = search (servings, rules)
+pub refused-requires : goal.refused-requires
+refused-requires c = size_place _ _ _ _ _ _ _ _ c.in-Err.ensures
 
-pub over_room-requires-clause-meant : goal.over_room-requires-clause-meant
-over_room-requires-clause-meant c = search (servings, rules)
+pub returns-in-Ok-clause-served : goal.returns-in-Ok-clause-served
+returns-in-Ok-clause-served c = size_opens _ _ _ _ _ _ _ c.in-Ok.ensures (started_work _ _ _ _ _ _ _ _ refl c.over_room.ensures.did)
 
-pub returns-then-size-eq0 : goal.returns-then-size-eq0
-returns-then-size-eq0 c = search (servings, rules)
-
-pub overflow_cast-size : goal.overflow_cast-size
-overflow_cast-size c = search (servings, rules)
-
-pub answer-requires : goal.answer-requires
-answer-requires c = search (servings, rules)
-
-pub returns : goal.returns
-returns c = search (servings, rules)
+pub returns-in-Err-clause-served : goal.returns-in-Err-clause-served
+returns-in-Err-clause-served c = size_refuses _ _ _ _ _ _ _ _ _ c.in-Err.ensures (numbered _) c.refused.ensures

@@ -1,16 +1,9 @@
 -- `start_over` refuses the start, or runs.
-use Rattle.desk.specs.VansDeskLaws.{starts}
-use borrow.Author.Rules.{rules}
+use Rattle.desk.specs.VansDeskLaws.{numbered, start_refuses, start_place}
 use Rattle.desk.proofs.desk_bytes.start_over.Goals as goal
 
-pub returns-then-fault-eq0 : goal.returns-then-fault-eq0
-returns-then-fault-eq0 c = search (starts, rules)
+pub refused-requires : goal.refused-requires
+refused-requires c = start_place _ _ _ _ _ _ _ _ _ c.in-Err.ensures c.requires.fitting c.requires.ready (numbered _)
 
-pub overflow_cast-fault : goal.overflow_cast-fault
-overflow_cast-fault c = search (starts, rules)
-
-pub answer-requires : goal.answer-requires
-answer-requires c = search (starts, rules)
-
-pub returns : goal.returns
-returns c = search (starts, rules)
+pub returns-in-Err-clause-served : goal.returns-in-Err-clause-served
+returns-in-Err-clause-served c = start_refuses _ _ _ _ _ _ _ _ _ _ _ c.in-Err.ensures (numbered _) c.refused.ensures

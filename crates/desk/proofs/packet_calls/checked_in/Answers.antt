@@ -1,28 +1,13 @@
--- `checked_in` goes by what the checker says: each arm is a law.
-use Rattle.desk.specs.TaskLaws.{checkings}
-use borrow.Author.Rules.{rules}
+-- `checked_in` goes by what the checker says.
+use Rattle.std.proofs.Common.{refl}
+use Rattle.desk.specs.TaskLaws.{front_in_room, error_near, checked_unread}
 use Rattle.desk.proofs.packet_calls.checked_in.Goals as goal
 
 pub slice_bounds-accepted_in-end : goal.slice_bounds-accepted_in-end
-slice_bounds-accepted_in-end c = search (checkings, rules)
+slice_bounds-accepted_in-end c = front_in_room _ _ _ _ c.in-Ok.ensures c.requires.packet_len_bound c.requires.packet_in_bounds _ refl c.check.auto.room
 
-pub slice_bounds-accepted_in-end-in-Accepted : goal.slice_bounds-accepted_in-end-in-Accepted
-slice_bounds-accepted_in-end-in-Accepted c = search (checkings, rules)
+pub unread-requires : goal.unread-requires
+unread-requires c = error_near _ _ _ _ c.in-Err.ensures c.requires.packet_len_bound c.requires.packet_in_bounds _ refl
 
-pub accepted_in-requires : goal.accepted_in-requires
-accepted_in-requires c = search (checkings, rules)
-
-pub overflow_cast-place : goal.overflow_cast-place
-overflow_cast-place c = search (checkings, rules)
-
-pub answer-requires : goal.answer-requires
-answer-requires c = search (checkings, rules)
-
-pub returns-in-Accepted : goal.returns-in-Accepted
-returns-in-Accepted c = search (checkings, rules)
-
-pub returns-in-Refused : goal.returns-in-Refused
-returns-in-Refused c = search (checkings, rules)
-
-pub returns-in-NoRoom : goal.returns-in-NoRoom
-returns-in-NoRoom c = search (checkings, rules)
+pub returns-in-Err-clause-did : goal.returns-in-Err-clause-did
+returns-in-Err-clause-did c = checked_unread _ _ _ _ c.in-Err.ensures c.requires.packet_len_bound c.requires.packet_in_bounds _ _ _ _ _ _ _ _ refl c.unread.ensures

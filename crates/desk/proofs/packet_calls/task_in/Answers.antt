@@ -1,10 +1,7 @@
--- `task_in` reads, or checks first.
+-- `task_in`: an arm that lends the buffer alone.
 use Rattle.desk.specs.TaskLaws.{tasks}
 use borrow.Author.Rules.{rules}
 use Rattle.desk.proofs.packet_calls.task_in.Goals as goal
 
-pub returns-then-task-eq-READ : goal.returns-then-task-eq-READ
-returns-then-task-eq-READ c = search (tasks, rules)
-
-pub returns : goal.returns
-returns c = search (tasks, rules)
+pub returns-in-Read-clause-did : goal.returns-in-Read-clause-did
+returns-in-Read-clause-did c = search (tasks, rules)

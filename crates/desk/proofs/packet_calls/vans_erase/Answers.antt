@@ -1,7 +1,12 @@
 -- `vans_erase` is its task.
-use Rattle.desk.specs.TaskLaws.{calls}
-use borrow.Author.Rules.{rules}
+use Rattle.std.proofs.Common.{◌≡◌, arith, refl}
+use Rattle.desk.specs.PacketCall.{packet_call}
+use Rattle.desk.specs.EraseCall.{vans_erase_of}
+use Rattle.desk.specs.TaskLaws.{call_erases}
 use Rattle.desk.proofs.packet_calls.vans_erase.Goals as goal
 
 pub returns : goal.returns
-returns c = search (calls, rules)
+returns c =
+    let e : packet_call c.call.result c.call.new.loan.out.now ≡ vans_erase_of c.args.packet.now c.args.code.now =
+    call_erases _ _ _ _ _ _ _ _ _ _ _ c.call.ensures.did refl in
+    grind arith

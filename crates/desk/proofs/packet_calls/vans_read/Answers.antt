@@ -1,7 +1,12 @@
 -- `vans_read` is its task.
-use Rattle.desk.specs.TaskLaws.{calls}
-use borrow.Author.Rules.{rules}
+use Rattle.std.proofs.Common.{◌≡◌, arith, refl}
+use Rattle.desk.specs.PacketCall.{packet_call}
+use Rattle.desk.specs.ReadCall.{vans_read_of}
+use Rattle.desk.specs.TaskLaws.{call_reads}
 use Rattle.desk.proofs.packet_calls.vans_read.Goals as goal
 
 pub returns : goal.returns
-returns c = search (calls, rules)
+returns c =
+    let e : packet_call c.call.result c.call.new.loan.out.now ≡ vans_read_of c.args.packet.now c.args.numbers.now =
+    call_reads _ _ _ _ _ _ _ _ _ _ _ c.call.ensures.did refl in
+    grind arith

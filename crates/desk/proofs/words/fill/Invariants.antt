@@ -1,12 +1,9 @@
 -- `fill` copies bytes into words: the words before i are there, and the bytes left make the rest.
-use Prim.Native.Nat.{◌-◌, ◌*◌}
+use Prim.Native.Nat.{◌*◌}
 use mathlib.Core.Path.{◌≡◌}
 use lib.ListN.{length}
 use Rattle.desk.specs.ByteLaws.{Filled}
 use Rattle.desk.proofs.words.fill.Given as goal
 
 abbrev pub invariant-loop-i : goal.invariant-loop-i
-invariant-loop-i l = (length l.from ≡ length l.to * 4) × Filled l.from l.to l.i
-
-abbrev pub decreases-loop-i : goal.decreases-loop-i
-decreases-loop-i l = length l.to - l.i
+invariant-loop-i l = (length l.from ≡ length l.word-items * 4) × Filled l.from l.word-items l.i

@@ -1,12 +1,9 @@
 -- `put_text` goes from byte to byte: the whole is what is still to be put.
-use Prim.Native.Nat.{◌+◌, ◌-◌, ◌≤◌}
+use Prim.Native.Nat.{◌+◌}
 use mathlib.Core.Path.{◌≡◌}
 use lib.ListN.{length, drop}
 use Rattle.lines.specs.Put.{put_of}
 use Rattle.lines.proofs.texts.put_text.Given as goal
 
-abbrev pub invariant-loop-i : goal.invariant-loop-i
-invariant-loop-i l = (length l.out ≡ length l.initial.out) × (l.end ≡ l.at + l.i) × (l.i ≤ length l.text) × (put_of l.initial.out l.at l.text ≡ put_of l.out l.end (drop l.i l.text))
-
-abbrev pub decreases-loop-i : goal.decreases-loop-i
-decreases-loop-i l = length l.text - l.i
+abbrev pub invariant-loop-byte : goal.invariant-loop-byte
+invariant-loop-byte l = (length l.out ≡ length l.initial.out) × (l.end ≡ l.at + l.byte-index) × (put_of l.initial.out l.at l.text ≡ put_of l.out l.end (drop l.byte-index l.text))

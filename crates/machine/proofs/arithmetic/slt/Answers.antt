@@ -1,25 +1,33 @@
--- `slt` compares two words as signed numbers. The test speaks of the numbers that the bits of the two results stand for, which are the results.
-use Prim.Native.Nat.{ℕ}
-use mathlib.Core.Path.{◌≡◌}
-use mathlib.Core.Bool.{Bool}
-use lib.IntN.{ℤ}
+-- `slt` compares two words as signed numbers: the number that `cast_signed` answers is the one that the definition reads.
+use Rattle.std.proofs.Common.{◌≡◌, ℕ, ◌∙◌, ◌-◌, ◌<◌, ◌^◌, Bool, true, false, ℤ, pos, to_z, of_z, arith, refl, ap, ltb, le-ltb}
+use Rattle.std.proofs.Math.Decide.{dec_lt}
+use Rattle.std.proofs.lemmas.Int.{to_z-of_z, to_z_pos}
+use lib.IntN.{negsuc}
 use lib.Signed.{lt_z}
 use mir.Syntax.{w32}
-use mir.Val.{SFits, to_z, of_z}
-use mir.Facts.{to_z-of_z}
+use mir.Val.{SFits, bool_byte}
 use borrow.Author.Rules.{rules}
-use Rattle.choice.specs.Pick.{cases}
+use Rattle.choice.specs.Pick.{pick, is_less, not_less}
 use Rattle.machine.specs.Arithmetic.{signed_of, slt_of}
 use Rattle.machine.proofs.arithmetic.slt.Goals as goal
 
-as_read : (a b : ℕ) (x y : ℤ) (t : Bool) → x ≡ signed_of a → y ≡ signed_of b → SFits w32 x → SFits w32 y
-    → lt_z (to_z w32 (of_z w32 x)) (to_z w32 (of_z w32 y)) ≡ t → lt_z (signed_of a) (signed_of b) ≡ t
-as_read a b x y t ex ey fx fy e = cc (to_z-of_z fx, to_z-of_z fy)
+as_signed : (w : ℕ) → to_z w32 w ≡ signed_of w
+unfolding signed_of
+as_signed w = by_half (dec_lt w (2 ^ 31))
+  where
+    by_half : Dec (w < 2 ^ 31) → to_z w32 w ≡ pick (ltb w (2 ^ 31)) (pos w) (negsuc (2 ^ 32 - 1 - w))
+    by_half (yes g) = is_less w (2 ^ 31) _ _ _ g (to_z_pos w32 w g)
+    by_half (no g) = not_less w (2 ^ 31) _ _ _ (omega arith) (rw (le-ltb w (2 ^ 31) (omega arith)) (ap negsuc (omega arith)))
 
-pub returns-then-signed : goal.returns-then-signed
-unfolding slt_of
-returns-then-signed c = search (cases, as_read, rules)
+as_number : (t : Bool) → bool_byte t ≡ pick t 1 0
+unfolding pick
+as_number true = refl
+as_number false = refl
 
-pub returns-else-signed : goal.returns-else-signed
+as_read : (a b r : ℕ) (x y : ℤ) → SFits w32 x → SFits w32 y → x ≡ to_z w32 a → y ≡ to_z w32 b
+    → r ≡ bool_byte (lt_z (to_z w32 (of_z w32 x)) (to_z w32 (of_z w32 y))) → r ≡ slt_of a b
 unfolding slt_of
-returns-else-signed c = search (cases, as_read, rules)
+as_read a b r x y fx fy ex ey e = e ∙ as_number _ ∙ cc (to_z-of_z w32 x fx, to_z-of_z w32 y fy, as_signed a, as_signed b)
+
+pub returns : goal.returns
+returns c = search (as_read, rules)

@@ -1,55 +1,21 @@
--- `act` does one step of a running machine: each arm of the match is the kind of its opcode.
-use Rattle.machine.specs.TableLaws.{opcodes}
+-- The arms of `act` that the rule set on it leaves: an operation with an immediate, by its number.
+use Rattle.std.proofs.Common.{◌≡◌, ℕ, ◌-◌, ◌<◌, ◌≤◌, List, length, get_or}
 use borrow.Author.Rules.{rules}
+use Rattle.machine.specs.Word.{opcode_of, compute_immediate_in}
+use Rattle.machine.specs.WordLaws.{op_compute_immediate_at}
+use Rattle.machine.specs.Step.{Machine, does_of, act_of}
+use Rattle.machine.specs.TableLaws.{as_kind, acts}
 use Rattle.machine.proofs.table.act.Goals as goal
 
-pub returns-in-0 : goal.returns-in-0
-returns-in-0 c = search (opcodes, rules)
-
-pub returns-in-1 : goal.returns-in-1
-returns-in-1 c = search (opcodes, rules)
-
-pub returns-in-2 : goal.returns-in-2
-returns-in-2 c = search (opcodes, rules)
-
-pub returns-in-3 : goal.returns-in-3
-returns-in-3 c = search (opcodes, rules)
-
-pub returns-in-4 : goal.returns-in-4
-returns-in-4 c = search (opcodes, rules)
-
-pub returns-in-5 : goal.returns-in-5
-returns-in-5 c = search (opcodes, rules)
-
-pub returns-in-6 : goal.returns-in-6
-returns-in-6 c = search (opcodes, rules)
-
-pub returns-in-7 : goal.returns-in-7
-returns-in-7 c = search (opcodes, rules)
-
-pub returns-in-8 : goal.returns-in-8
-returns-in-8 c = search (opcodes, rules)
-
-pub returns-in-10 : goal.returns-in-10
-returns-in-10 c = search (opcodes, rules)
+immediate : (op k v pc : ℕ) (code regs heap : List ℕ) (r : Machine) → v ≡ opcode_of (get_or code pc 0) → v ≡ k → op ≡ k - 5 → 10 ≤ k → k < 15 → pc < length code
+    → r ≡ does_of (compute_immediate_in op (get_or code pc 0)) regs pc heap → r ≡ act_of code regs pc heap
+immediate op k v pc code regs heap r e z a g l h p = acts code regs pc heap r h (as_kind regs pc heap r _ _ (op_compute_immediate_at v _ (get_or code pc 0) e op k z a g l) p)
 
 pub returns-in-11 : goal.returns-in-11
-returns-in-11 c = search (opcodes, rules)
+returns-in-11 c = search (immediate, c.compute_immediate-in-11.ensures, rules)
 
 pub returns-in-12 : goal.returns-in-12
-returns-in-12 c = search (opcodes, rules)
+returns-in-12 c = search (immediate, c.compute_immediate-in-12.ensures, rules)
 
 pub returns-in-13 : goal.returns-in-13
-returns-in-13 c = search (opcodes, rules)
-
-pub returns-in-5-to-9 : goal.returns-in-5-to-9
-returns-in-5-to-9 c = search (opcodes, rules)
-
-pub returns-in-10-to-14 : goal.returns-in-10-to-14
-returns-in-10-to-14 c = search (opcodes, rules)
-
-pub returns-in_default : goal.returns-in_default
-returns-in_default c = search (opcodes, rules)
-
-pub returns-else-pc-code : goal.returns-else-pc-code
-returns-else-pc-code c = search (opcodes, rules)
+returns-in-13 c = search (immediate, c.compute_immediate-in-13.ensures, rules)

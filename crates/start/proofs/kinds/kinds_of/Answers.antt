@@ -1,19 +1,18 @@
 use Rattle.start.specs.KindLaws.{ADDRESSES, entries}
 use borrow.Author.Rules.{rules}
 use Rattle.start.proofs.kinds.kinds_of.Goals as goal
+use Rattle.start.proofs.kinds.kinds_of.Goals.{then-a-lt-ADDRESSES, else-a-lt-ADDRESSES}
 
-pub loop-left-init : goal.loop-left-init
-unfolding ADDRESSES
-loop-left-init c = search (entries, rules)
+pub overflow_add-kinds : goal.overflow_add-kinds
+overflow_add-kinds c = search (entries, rules)
 
-pub loop-left-preserved-then-base-lt-ADDRESSES : goal.loop-left-preserved-then-base-lt-ADDRESSES
-unfolding ADDRESSES
-loop-left-preserved-then-base-lt-ADDRESSES c = search (entries, rules)
+pub overflow_cast-kinds : goal.overflow_cast-kinds
+overflow_cast-kinds c = search (entries, rules)
 
-pub loop-left-preserved : goal.loop-left-preserved
+pub loop-base-preserved : goal.loop-base-preserved
 unfolding ADDRESSES
-loop-left-preserved c = search (entries, rules)
+loop-base-preserved c =
+    elim c.if-a-lt-ADDRESSES.branch [ then-a-lt-ADDRESSES w ↦ rw w.kinds-is (search (entries, rules)) | else-a-lt-ADDRESSES w ↦ rw w.kinds-is (search (entries, rules)) ]
 
 pub returns : goal.returns
-unfolding ADDRESSES
 returns c = search (entries, rules)

@@ -1,10 +1,7 @@
--- `kinds_of` enters the rows from the last to the first.
+-- `kinds_of` enters the rows from the first to the last.
 use Rattle.start.specs.KindLaws.{Entered}
+use Rattle.start.specs.PairLaws.{rows_in}
 use Rattle.start.proofs.kinds.kinds_of.Given as goal
 
-abbrev pub invariant-loop-left : goal.invariant-loop-left
-invariant-loop-left l =
-    Entered l.blocks l.left l.kinds
-
-abbrev pub decreases-loop-left : goal.decreases-loop-left
-decreases-loop-left l = l.left
+abbrev pub invariant-loop-base : goal.invariant-loop-base
+invariant-loop-base l = Entered (rows_in l.rows) l.base-index l.kinds

@@ -1,0 +1,69 @@
+// A packet, its numbers, and where items, labels and shapes stand among them.
+use checker::field_count;
+use listing::limits::{ITEMS, LABELS, SHAPES};
+use listing::{
+    Item, Items, Labels, Rest, Shapes, behind_all, count_at, each_item, items_place, labels_place,
+};
+use rules::Label;
+
+#[derive(Clone, Copy)]
+pub struct Packet<'a> {
+    pub bytes: &'a [u8],
+    pub numbers: &'a [u32],
+}
+
+impl<'a> Packet<'a> {
+    pub fn shape_place(&self, s: u32) -> u32 {
+        behind_all::<Shapes>(self.numbers, 2, s.min(SHAPES))
+    }
+
+    pub fn field_count(&self, s: u32) -> u32 {
+        field_count(self.numbers, self.shape_place(s))
+    }
+
+    pub fn label(&self, l: u32) -> Label<'a> {
+        let first = labels_place(self.numbers) + 1;
+        Label {
+            numbers: self.numbers,
+            place: behind_all::<Labels>(self.numbers, first, l.min(LABELS)),
+        }
+    }
+
+    pub fn items(&self) -> Rest<'a> {
+        each_item(self.numbers)
+    }
+
+    pub fn item_count(&self) -> u32 {
+        count_at(ITEMS, self.numbers, items_place(self.numbers))
+    }
+
+    pub fn item(&self, i: usize) -> Item {
+        self.items().nth(i).unwrap_or(Item::Halt)
+    }
+
+    // How many numbers stand before an item.
+    pub fn item_place(&self, i: usize) -> u32 {
+        let first = items_place(self.numbers) + 1;
+        behind_all::<Items>(self.numbers, first, i.min(ITEMS as usize) as u32)
+    }
+
+    // The item that places a label, of those before item n.
+    pub fn placed_by(&self, l: u32, n: usize) -> Option<usize> {
+        self.items().take(n).position(|item| is_label(item, l))
+    }
+
+    // The first label that no item places: there is one, so it is the last where it is none before.
+    pub fn first_unplaced(&self) -> u32 {
+        let items = self.item_count() as usize;
+        (0..LABELS)
+            .find(|l| self.placed_by(*l, items).is_none())
+            .unwrap_or(LABELS)
+    }
+}
+
+fn is_label(item: Item, l: u32) -> bool {
+    match item {
+        Item::Label(placed) => placed == l,
+        _ => false,
+    }
+}
