@@ -126,28 +126,29 @@ module _ (whole table : List ℕ) (next : ℕ → ℕ) (at k n : ℕ) (inv : who
 
 pub ruleset tablings = (refl, table_turn, table_end)
 
--- a field of a shape, of which there are n
-module _ (ns : List ℕ) (place c n : ℕ) (counted : n ≡ count_at FIELDS ns place) where
-  field_is : c < n → field_at ns (place + 1 + 2 * c) ≡ get_or (shape_at ns place) c no_field
+-- how many fields a shape has
+pub count_is : (ns : List ℕ) (place n : ℕ) → n ≡ count_at FIELDS ns place → n ≡ length (shape_at ns place)
+count_is ns place n counted = counted ∙ sym (parts_length (field_at ns) (λ p. p + 2) (place + 1) (count_at FIELDS ns place))
+
+-- a field of a shape, which stands at `at`
+module _ (ns : List ℕ) (place c : ℕ) where
+  field_is : c < length (shape_at ns place) → field_at ns (place + 1 + 2 * c) ≡ get_or (shape_at ns place) c no_field
   field_is h =
-      sym (part_stands (field_at ns) (λ p. p + 2) no_field (count_at FIELDS ns place) (place + 1) c (omega (arith, counted)) ∙ ap (field_at ns) (behind_equal 2 (place + 1) c))
+      sym (part_stands (field_at ns) (λ p. p + 2) no_field (count_at FIELDS ns place) (place + 1) c (omega (arith, h, count_is ns place _ refl)) ∙ ap (field_at ns) (behind_equal 2 (place + 1) c))
 
-  pub kind_is : (k v : ℕ) → c < n → v ≡ number_at ns (place + 1 + 2 * c) → k ≡ count_of SHAPES v → k ≡ (get_or (shape_at ns place) c no_field).kind
-  kind_is k v h p q = q ∙ ap (count_of SHAPES) p ∙ ap (λ (f : Field). f.kind) (field_is h)
+  pub kind_is : (at k v : ℕ) → c < length (shape_at ns place) → at ≡ place + 1 + 2 * c → v ≡ number_at ns at → k ≡ count_of SHAPES v → k ≡ (get_or (shape_at ns place) c no_field).kind
+  kind_is at k v h e p q = q ∙ ap (count_of SHAPES) (p ∙ ap (number_at ns) e) ∙ ap (λ (f : Field). f.kind) (field_is h)
 
-  pub level_is : (k v : ℕ) → c < n → v ≡ number_at ns (place + 1 + 2 * c + 1) → k ≡ count_of TOP_LEVEL v → k ≡ (get_or (shape_at ns place) c no_field).level
-  level_is k v h p q = q ∙ ap (count_of TOP_LEVEL) p ∙ ap (λ (f : Field). f.level) (field_is h)
+  pub level_is : (at k v : ℕ) → c < length (shape_at ns place) → at ≡ place + 1 + 2 * c → v ≡ number_at ns (at + 1) → k ≡ count_of TOP_LEVEL v → k ≡ (get_or (shape_at ns place) c no_field).level
+  level_is at k v h e p q = q ∙ ap (count_of TOP_LEVEL) (p ∙ ap (λ (a : ℕ). number_at ns (a + 1)) e) ∙ ap (λ (f : Field). f.level) (field_is h)
 
-  no_field_lem : n ≤ c → no_field ≡ get_or (shape_at ns place) c no_field
-  no_field_lem h = sym (no_part (field_at ns) (λ p. p + 2) no_field (count_at FIELDS ns place) (place + 1) c (omega (arith, counted)))
+  no_field_lem : length (shape_at ns place) ≤ c → no_field ≡ get_or (shape_at ns place) c no_field
+  no_field_lem h = sym (get_or-eq_default (shape_at ns place) no_field {n = c} (omega (arith, h)))
 
-  pub no_kind : n ≤ c → 0 ≡ (get_or (shape_at ns place) c no_field).kind
+  pub no_kind : length (shape_at ns place) ≤ c → 0 ≡ (get_or (shape_at ns place) c no_field).kind
   no_kind h = ap (λ (f : Field). f.kind) (no_field_lem h)
 
-  pub no_level : n ≤ c → 0 ≡ (get_or (shape_at ns place) c no_field).level
+  pub no_level : length (shape_at ns place) ≤ c → 0 ≡ (get_or (shape_at ns place) c no_field).level
   no_level h = ap (λ (f : Field). f.level) (no_field_lem h)
 
-  pub count_is : n ≡ length (shape_at ns place)
-  count_is = counted ∙ sym (parts_length (field_at ns) (λ p. p + 2) (place + 1) (count_at FIELDS ns place))
-
-pub ruleset fields = (refl, kind_is, level_is, no_kind, no_level, count_is)
+pub ruleset fields = (refl, kind_is, level_is, no_kind, no_level)

@@ -1,11 +1,12 @@
--- Laws for the code of the walk: one for each way through it. `placings` holds those for the placed labels, `faults` those for an answer at its place.
-use Prim.Native.Nat.{ℕ, suc, ◌+◌, ◌-◌, ◌<◌, ◌≤◌}
+-- Laws for the code of the walk: one for each way through it. `faults` holds those for an answer at its place.
+use Prim.Native.Nat.{ℕ, zero, suc, ◌+◌, ◌≤◌}
 use native.Mathlib.Omega.{arith}
 use Rattle.std.specs.Prelude.{◌≡◌, Bool, not, true, false, length, get_or, replicate}
 use Rattle.std.proofs.Math.Path.{refl, sym, ap}
-use Rattle.std.proofs.Common.{◌∙◌}
+use Rattle.std.specs.List.{list_all}
+use Rattle.std.proofs.Common.{◌∙◌, drop-cons}
 use mathlib.Core.List.{List, [], ◌∷◌}
-use Rattle.std.proofs.Math.ListN.{get_or-eq_default}
+use Rattle.std.proofs.Math.ListN.{take, drop}
 use Rattle.choice.specs.Pick.{pick, is_true, is_false, is_equal, not_equal, if_equal}
 use Rattle.refusals.specs.declared.Refusal.{Refusal}
 use Rattle.refusals.specs.declared.Fault.{Fault}
@@ -18,6 +19,7 @@ use Rattle.listing.specs.Parts.{number_at, count_at, item_at, behind_item, label
 use Rattle.listing.specs.PartLaws.{parts_length}
 use Rattle.listing.specs.PlaceLaws.{count_held}
 use Rattle.rules.specs.Rules.{first_failing}
+use Rattle.rules.specs.HeldLaws.{and_pick}
 use Rattle.checker.specs.Walk.{accepted, free_of, all_from, or_else, premises_of, end_row, walk_from, walk_of}
 use Rattle.checker.specs.Refusal.{State, start, behind}
 use Rattle.checker.specs.States.{walk_on}
@@ -29,28 +31,16 @@ module _ (placed : List Bool) (l : ℕ) where
   is_placed true e = is_true _ _ _ _ (sym e) refl
   is_placed false e = is_false _ _ _ _ (sym e) refl
 
-  pub past_placed : (b : Bool) → length placed ≤ l → b ≡ false → not b ≡ free_of placed l
-  past_placed b h z = ap not z ∙ is_false _ _ _ _ (get_or-eq_default placed false {n = l} (omega arith)) refl
-
-module _ (answer : Bool) (placed : List Bool) (i n : ℕ) (inv : answer ≡ all_from placed i (n - i)) where
-  one_left : i < n → answer ≡ pick (get_or placed i false) (all_from placed (i + 1) (n - (i + 1))) false
-  unfolding all_from
-  one_left h = let more : n - i ≡ suc (n - (i + 1)) = omega arith in inv ∙ ap (all_from placed i) more
-
-  pub placed_turn : i < n → get_or placed i false ≡ true → answer ≡ all_from placed (i + 1) (n - (i + 1))
-  placed_turn h e = one_left h ∙ sym (is_true _ _ _ _ e refl)
-
-  pub placed_missing : i < n → get_or placed i false ≡ false → false ≡ answer
-  placed_missing h e = sym (one_left h ∙ sym (is_false _ _ _ _ e refl))
-
-  pub placed_all : n ≤ i → true ≡ answer
-  unfolding all_from
-  placed_all h = let none : n - i ≡ 0 = omega arith in sym (inv ∙ ap (all_from placed i) none)
-
-pub placed_begins : (placed : List Bool) (n : ℕ) → all_from placed 0 n ≡ all_from placed 0 (n - 0)
-placed_begins placed n = ap (all_from placed 0) (omega arith)
-
-pub ruleset placings = (refl, is_placed, past_placed, placed_turn, placed_missing, placed_all, placed_begins)
+-- the first n of those from k on
+pub placed_each : (placed : List Bool) (k n : ℕ) → k + n ≤ length placed → list_all (λ p. p) (take n (drop k placed)) ≡ all_from placed k n
+unfolding all_from
+placed_each placed k zero h = refl
+placed_each placed k (suc n) h =
+    let next : suc k ≡ k + 1 = omega arith in
+    let cells : drop k placed ≡ get_or placed k false ∷ drop (k + 1) placed = drop-cons placed k false (omega arith) ∙ ap (λ (m : ℕ). get_or placed k false ∷ drop m placed) next in
+    ap (λ (xs : List Bool). list_all (λ p. p) (take (suc n) xs)) cells
+    ∙ and_pick _ _
+    ∙ ap (λ (r : Bool). pick (get_or placed k false) r false) (placed_each placed (k + 1) n (omega arith))
 
 -- an answer about what stands at a place, by the number of its first refusal there
 module _ (k at : ℕ) where

@@ -37,10 +37,7 @@ impl Block {
     pub fn is_closed(self) -> bool
         ensures { result ≡ pick (is_open self) false true }
     {
-        match self {
-            Block::Start | Block::Closed => true,
-            Block::Open => false,
-        }
+        self != Block::Open
     }
 
     // What refuses a label here, first.

@@ -11,6 +11,8 @@ use crate::tables::{Tabled, field_count, field_kind, field_level};
 use refusals::Refusal;
 use rules::Held;
 
+// A load and a store are apart: they go through the other register, `store` asks for the field's kind too, and each
+// promises a row of its own, `load_row` and `store_row`.
 impl Tabled<'_> {
     // What refuses a load, first.
     pub fn load(&self, c: &Held, rd: u32, rs: u32, field: u32) -> Result<(), Refusal>

@@ -1,5 +1,6 @@
 // Tables of places: where each shape and each label of a listing begins, and the reading of fields.
-ghost use Rattle.std.specs.Prelude.{◌≡◌, ◌≤◌, ◌<◌, ◌+◌, ◌*◌, ◌^◌, length, get_or};
+ghost use Rattle.std.specs.Prelude.{◌≡◌, ◌≤◌, ◌<◌, ◌+◌, ◌*◌, ◌^◌, length, get_or, MatchOption};
+ghost use Rattle.listing.specs.Limits;
 ghost use Rattle.listing.specs.Limits.{BYTES};
 ghost use Rattle.listing.specs.Parts.{shape_at, labels_in, shapes_in};
 ghost use Rattle.rules.specs.Context.{target_of, no_field, fields_of};
@@ -10,7 +11,8 @@ use listing::limits::{FIELDS, LABELS, SHAPES, TOP_LEVEL};
 use listing::{Labels, Part, Shapes, at_most, count_at, labels_place, number_at};
 use rules::Label;
 
-// The places of n parts of one sort, the first at a place; past them the end of the numbers.
+// The places of n parts of one sort, the first at a place; past them the end of the numbers: no Option, since there a
+// part reads as one with nothing in it, which is what `label` and `shape_place` promise for one that there is not.
 fn places<P: Part, const N: usize>(numbers: &[u32], first: u32, n: u32) -> [u32; N]
     requires short { length numbers.now ≤ BYTES }
     requires room { n ≤ N }
@@ -19,6 +21,7 @@ fn places<P: Part, const N: usize>(numbers: &[u32], first: u32, n: u32) -> [u32;
 {
     let mut table = [numbers.len() as u32; N];
     let mut at = first;
+    // By index: the proof doesn't close over `iter_mut`, behind which only the table's length is known.
     for k in 0..n as usize {
         table[k] = at;
         at = P::behind(numbers, at);
@@ -27,7 +30,8 @@ fn places<P: Part, const N: usize>(numbers: &[u32], first: u32, n: u32) -> [u32;
 }
 
 // A listing by its numbers, with the places of its shapes and of its labels: arrays for as many as there
-// may be, since there is no heap.
+// may be, since there is no heap. That the numbers are short is asked of what makes one alone: `new`, `places`
+// and `walk` around them.
 #[derive(Drop)]
 pub struct Tabled<'a> {
     pub numbers: &'a [u32],
@@ -52,6 +56,15 @@ impl<'a> Tabled<'a> {
             shapes,
             labels,
         }
+    }
+
+    // How many labels there are.
+    #[tactic(auto, using(crate::specs::WalkLaws::labels_counted))]
+    pub(crate) fn label_count(&self) -> u32
+        ensures value { result ≡ length (labels_in self.now.numbers.now) }
+        ensures few { result ≤ Limits.LABELS }
+    {
+        count_at(LABELS, self.numbers, labels_place(self.numbers))
     }
 
     // The place that a table has at i; past its end that of the end of the numbers.
@@ -81,27 +94,35 @@ impl<'a> Tabled<'a> {
     }
 }
 
-// How many fields the shape at a place has.
-#[tactic(auto, using(crate::specs::Tables::fields))]
+// How many fields the shape at a place has. The numbers and the place come apart, as docs/PROMISES.md has these three.
+#[tactic(auto, using(crate::specs::Tables::count_is))]
 pub fn field_count(numbers: &[u32], place: u32) -> u32
     ensures { result ≡ length (shape_at numbers.now place) }
 {
     count_at(FIELDS, numbers, place)
 }
 
-// A field of the shape at a place: its kind and its level, 0 where it has no such field.
+// Where a field of the shape at a place stands, if the shape has it.
+fn field_place(numbers: &[u32], place: u32, c: u32) -> Option<usize>
+    ensures { MatchOption result (length (shape_at numbers.now place) ≤ c) (λ at. (c < length (shape_at numbers.now place)) × (at ≡ place + 1 + 2 * c)) }
+{
+    if c < field_count(numbers, place) {
+        Some(place as usize + 1 + 2 * c as usize)
+    } else {
+        None
+    }
+}
+
+// A field of the shape at a place: its kind and its level, 0 where it has no such field. No Option, since their clauses
+// have `get_or .. no_field`.
 
 #[tactic(auto, using(crate::specs::Tables::fields))]
 pub fn field_kind(numbers: &[u32], place: u32, c: u32) -> u8
     ensures { result ≡ (get_or (shape_at numbers.now place) c no_field).kind }
 {
-    if c < count_at(FIELDS, numbers, place) {
-        at_most(
-            SHAPES,
-            number_at(numbers, place as usize + 1 + 2 * c as usize),
-        ) as u8
-    } else {
-        0
+    match field_place(numbers, place, c) {
+        Some(at) => at_most(SHAPES, number_at(numbers, at)) as u8,
+        None => 0,
     }
 }
 
@@ -109,12 +130,8 @@ pub fn field_kind(numbers: &[u32], place: u32, c: u32) -> u8
 pub fn field_level(numbers: &[u32], place: u32, c: u32) -> u32
     ensures { result ≡ (get_or (shape_at numbers.now place) c no_field).level }
 {
-    if c < count_at(FIELDS, numbers, place) {
-        at_most(
-            TOP_LEVEL,
-            number_at(numbers, place as usize + 1 + 2 * c as usize + 1),
-        )
-    } else {
-        0
+    match field_place(numbers, place, c) {
+        Some(at) => at_most(TOP_LEVEL, number_at(numbers, at + 1)),
+        None => 0,
     }
 }

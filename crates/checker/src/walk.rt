@@ -3,23 +3,23 @@ ghost use Rattle.std.specs.Prelude.{◌≡◌, ◌≤◌, ◌<◌, ◌+◌, OnOk
 ghost use Rattle.refusals.specs.Refusals.{number_in, verdict_in};
 ghost use Rattle.levels.specs.Sets.{below_of, join_of};
 ghost use Rattle.listing.specs.declared.items.Item.TheVariants.{Label};
-ghost use Rattle.listing.specs.Limits.{BYTES, LABELS, ITEMS};
-ghost use Rattle.listing.specs.Parts.{shapes_in, labels_in, listing_in};
+ghost use Rattle.listing.specs.Limits.{BYTES, ITEMS};
+ghost use Rattle.listing.specs.Parts.{labels_in, listing_in};
 ghost use Rattle.rules.specs.Rules.{first_failing};
-ghost use Rattle.rules.specs.Held.{context_in};
-ghost use Rattle.checker.specs.Walk.{accepted, or_else, end_row, is_label, premises_of, walk_of};
-ghost use Rattle.checker.specs.Refusal.{behind, start};
-ghost use Rattle.checker.specs.States.{state_in};
+ghost use Rattle.checker.specs.Walk.{accepted, or_else, end_row, is_label, walk_of};
+ghost use Rattle.checker.specs.Refusal.{start};
+ghost use Rattle.checker.specs.States.{state_in, number_due, state_behind};
 
 use crate::blocks::Block;
 use crate::placed::{all_placed, free, with_placed};
 use crate::tables::Tabled;
-use listing::{Item, count_at, each_item, labels_place, limits};
+use listing::{Item, each_item};
 use refusals::{Fault, Refusal};
 use rules::{Held, require};
 
 // Where the walk stands: before which item, in or out of a block, with a context, and with some labels
-// placed.
+// placed. The walk counts its place, without `enumerate`, which is no plainer: the end has a place too, behind the last
+// item, and `enumerate` gives a place to items alone.
 #[derive(Clone, Copy)]
 pub struct Standing {
     pub place: usize,
@@ -46,8 +46,8 @@ impl Standing {
     // Goes past a label, if nothing refuses it.
     #[tactic(auto, unfolding(crate::specs::Walk::premises_of, crate::specs::Walk::is_label, crate::specs::Walk::label_in, crate::specs::Walk::block_after, rules::specs::Rules::after_of, choice::specs::Pick::pick))]
     fn pass_label(&mut self, listing: &Tabled, l: u32) -> Result<(), Refusal>
-        ensures number { number_in result ≡ first_failing (premises_of below_of join_of (shapes_in listing.now.numbers.now) (labels_in listing.now.numbers.now) self.old.block (context_in self.old.held) self.old.placed (Label l)) }
-        ensures behind { OnOk result (state_in self.new ≡ behind below_of join_of (shapes_in listing.now.numbers.now) (labels_in listing.now.numbers.now) (state_in self.old) (Label l)) }
+        ensures number { number_in result ≡ number_due listing.now.numbers.now self.old (Label l) }
+        ensures behind { OnOk result (state_in self.new ≡ state_behind listing.now.numbers.now self.old (Label l)) }
         ensures place { self.new.place ≡ self.old.place }
     {
         let target = listing.label(l);
@@ -63,8 +63,8 @@ impl Standing {
     #[tactic(auto, using(crate::specs::BlockLaws::others))]
     fn pass_other(&mut self, listing: &Tabled, item: Item) -> Result<(), Refusal>
         requires { is_label item ≡ false }
-        ensures number { number_in result ≡ first_failing (premises_of below_of join_of (shapes_in listing.now.numbers.now) (labels_in listing.now.numbers.now) self.old.block (context_in self.old.held) self.old.placed item) }
-        ensures behind { OnOk result (state_in self.new ≡ behind below_of join_of (shapes_in listing.now.numbers.now) (labels_in listing.now.numbers.now) (state_in self.old) item) }
+        ensures number { number_in result ≡ number_due listing.now.numbers.now self.old item }
+        ensures behind { OnOk result (state_in self.new ≡ state_behind listing.now.numbers.now self.old item) }
         ensures place { self.new.place ≡ self.old.place }
     {
         self.block.item_rule(&self.held, item, listing)?;
@@ -76,8 +76,8 @@ impl Standing {
     // Goes past an item, if nothing refuses it.
     #[tactic(auto, using(crate::specs::BlockLaws::other))]
     fn pass(&mut self, listing: &Tabled, item: Item) -> Result<(), Refusal>
-        ensures number { number_in result ≡ first_failing (premises_of below_of join_of (shapes_in listing.now.numbers.now) (labels_in listing.now.numbers.now) self.old.block (context_in self.old.held) self.old.placed item) }
-        ensures behind { OnOk result (state_in self.new ≡ behind below_of join_of (shapes_in listing.now.numbers.now) (labels_in listing.now.numbers.now) (state_in self.old) item) }
+        ensures number { number_in result ≡ number_due listing.now.numbers.now self.old item }
+        ensures behind { OnOk result (state_in self.new ≡ state_behind listing.now.numbers.now self.old item) }
         ensures place { self.new.place ≡ self.old.place }
     {
         match item {
@@ -90,17 +90,14 @@ impl Standing {
     #[tactic(auto, using(crate::specs::WalkLaws::faults))]
     fn step(&mut self, listing: &Tabled, item: Item) -> Result<(), Fault>
         requires { self.old.place < ITEMS }
-        ensures verdict { verdict_in result ≡ or_else (first_failing (premises_of below_of join_of (shapes_in listing.now.numbers.now) (labels_in listing.now.numbers.now) self.old.block (context_in self.old.held) self.old.placed item)) self.old.place accepted }
-        ensures behind { OnOk result (state_in self.new ≡ behind below_of join_of (shapes_in listing.now.numbers.now) (labels_in listing.now.numbers.now) (state_in self.old) item) }
+        ensures verdict { verdict_in result ≡ or_else (number_due listing.now.numbers.now self.old item) self.old.place accepted }
+        ensures behind { OnOk result (state_in self.new ≡ state_behind listing.now.numbers.now self.old item) }
         ensures place { OnOk result (self.new.place ≡ self.old.place + 1) }
     {
-        match self.pass(listing, item) {
-            Ok(()) => {
-                self.place += 1;
-                Ok(())
-            }
-            Err(refusal) => Err(self.fault(refusal)),
-        }
+        self.pass(listing, item)
+            .map_err(|refusal| self.fault(refusal))?;
+        self.place += 1;
+        Ok(())
     }
 
     // A refusal of what stands here.
@@ -114,48 +111,43 @@ impl Standing {
         }
     }
 
-    // What refuses the end of a listing's items here, first; n labels are its own.
+    // What refuses the end of a listing's items here, first.
     #[tactic(auto, unfolding(rules::specs::Rules::first_failing, choice::specs::Pick::pick))]
-    fn end_rule(&self, n: u32) -> Result<(), Refusal>
-        requires { n ≤ LABELS }
-        ensures { number_in result ≡ first_failing (end_row n self.now.block self.now.placed) }
+    fn end_rule(&self, listing: &Tabled) -> Result<(), Refusal>
+        ensures { number_in result ≡ first_failing (end_row (length (labels_in listing.now.numbers.now)) self.now.block self.now.placed) }
     {
         require(self.block.is_closed(), Refusal::OpenEnd)?;
-        require(all_placed(self.placed, n), Refusal::NeverPlaced)
+        require(
+            all_placed(self.placed, listing.label_count()),
+            Refusal::NeverPlaced,
+        )
     }
 
     // The verdict at the end of the items.
     #[tactic(auto, using(crate::specs::WalkLaws::faults))]
-    fn end(&self, n: u32) -> Result<(), Fault>
-        requires { n ≤ LABELS }
-        ensures { verdict_in result ≡ or_else (first_failing (end_row n self.now.block self.now.placed)) self.now.place accepted }
+    fn end(&self, listing: &Tabled) -> Result<(), Fault>
+        ensures { verdict_in result ≡ or_else (first_failing (end_row (length (labels_in listing.now.numbers.now)) self.now.block self.now.placed)) self.now.place accepted }
     {
-        match self.end_rule(n) {
-            Ok(()) => Ok(()),
-            Err(refusal) => Err(self.fault(refusal)),
-        }
+        self.end_rule(listing)
+            .map_err(|refusal| self.fault(refusal))
     }
 }
 
-// The walk over the items of a listing of n labels.
-fn walk_items(listing: &Tabled, n: u32) -> Result<(), Fault>
-    requires n_value { n ≡ length (labels_in listing.now.numbers.now) }
-    requires n_bound { n ≤ LABELS }
+// The walk over the items of a listing.
+fn walk_items(listing: &Tabled) -> Result<(), Fault>
     ensures { verdict_in result ≡ walk_of below_of join_of (listing_in listing.now.numbers.now) }
 {
     let mut standing = Standing::start();
     for item in each_item(listing.numbers) {
         standing.step(listing, item)?;
     }
-    standing.end(n)
+    standing.end(listing)
 }
 
 // The walk of a listing, given by its numbers.
-#[tactic(auto, using(crate::specs::WalkLaws::labels_counted))]
 pub fn walk(numbers: &[u32]) -> Result<(), Fault>
     requires { length numbers.now ≤ BYTES }
     ensures { verdict_in result ≡ walk_of below_of join_of (listing_in numbers.now) }
 {
-    let n = count_at(limits::LABELS, numbers, labels_place(numbers));
-    walk_items(&Tabled::new(numbers), n)
+    walk_items(&Tabled::new(numbers))
 }

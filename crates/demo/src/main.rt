@@ -29,8 +29,8 @@ fn start(r1: u32, r2: u32) -> State {
     }
 }
 
-// The functions below print a line each. Where something cannot be written the rest is tried all the
-// same, and nothing is said of it.
+// The functions below print a line each, by prints that are one write each. Where one cannot be written the
+// rest is tried all the same, and nothing is said of it.
 
 // Takes n steps, and prints the pc before each.
 fn show_steps(out: &impl Print, r1: u32, n: u32) {

@@ -1,50 +1,47 @@
 -- Laws of vans_erase for the proofs of its code: one for each way through it.
-use Rattle.std.specs.Prelude.{ℕ, ◌*◌, ◌/◌, ◌%◌, ◌^◌, ◌<◌, ◌≤◌, ◌≡◌, refl, length, take, drop}
+use Rattle.std.specs.Prelude.{ℕ, ◌*◌, ◌/◌, ◌%◌, ◌^◌, ◌<◌, ◌≤◌, ◌≡◌, refl, length, take, drop, ltb}
 use native.Mathlib.Omega.{arith}
-use Rattle.std.proofs.Math.Path.{ap}
+use Rattle.std.proofs.Math.Path.{sym, ap}
 use Rattle.std.proofs.Common.{◌∙◌, Fits}
-use mathlib.Core.List.{List, ◌++◌}
-use Rattle.std.specs.Int.{w32}
+use mathlib.Core.List.{List}
 use Rattle.std.specs.Prelude.{replicate}
 use Rattle.std.proofs.lemmas.List.{length-replicate}
-use Rattle.choice.specs.Pick.{is_less, not_less, is_equal, not_equal}
+use Rattle.choice.specs.Pick.{pick, is_less, not_less, is_equal, not_equal}
 use Rattle.machine.specs.Numbers.{CODE_WORDS, BAD_SIZE}
-use Rattle.listing.specs.Limits.{ITEMS}
+use Rattle.listing.specs.Limits.{BYTES, ITEMS}
 use Rattle.listing.specs.Parts.{items_in}
 use Rattle.eraser.specs.Erase.{needed_of, erased_by, erase_of}
 use Rattle.eraser.specs.Theorems.{needed_fits}
 use Rattle.service.specs.Numbers.{DOES_NOT_FIT}
 use Rattle.service.specs.Desk.{code_for}
 use Rattle.service.specs.DeskLaws.{erased_count, erased_length, erased_front}
-use Rattle.desk.specs.Bytes.{bytes_of}
-use Rattle.desk.specs.ByteLaws.{words_in_front}
 use Rattle.desk.specs.Answer.{answer_of}
 use Rattle.desk.specs.PacketCall.{PacketCall, packet_call}
+use Rattle.desk.specs.ReadCall.{handed_of}
 use Rattle.desk.specs.EraseCall.{code_out, erased_out}
 
--- a code handed over
-module _ (code out : List ℕ) (a : ℕ) where
-  pub code_not : length out / 4 < length code → a ≡ answer_of DOES_NOT_FIT (length code) 0 → packet_call a out ≡ code_out code out
+-- a code handed over: as words are, and 30 where it fits a ragged buffer
+module _ (code out : List ℕ) where
+  pub code_not : (c : PacketCall) → length out / 4 < length code → c ≡ handed_of code (length code) out → c ≡ code_out code out
+  unfolding handed_of code_out
+  code_not c h p = is_less (length out / 4) (length code) _ _ _ h (p ∙ sym (is_less (length out / 4) (length code) _ _ _ h refl))
+
+  pub code_whole : (c : PacketCall) → length out % 4 ≡ 0 → c ≡ handed_of code (length code) out → c ≡ code_out code out
+  unfolding handed_of code_out
+  code_whole c r p =
+      let too_few : PacketCall = packet_call (answer_of DOES_NOT_FIT (length code) 0) out in
+      p ∙ ap (λ (w : PacketCall). pick (ltb (length out / 4) (length code)) too_few w) (is_equal (length out % 4) 0 _ _ _ r refl)
+
+  pub code_ragged : (a : ℕ) → length code ≤ length out / 4 → (length out % 4 ≡ 0 → ⊥) → a ≡ answer_of BAD_SIZE 0 0 → packet_call a out ≡ code_out code out
   unfolding code_out
-  code_not h p = is_less (length out / 4) (length code) _ _ _ h (ap (λ (x : ℕ). packet_call x out) p)
+  code_ragged a h r p = not_less (length out / 4) (length code) _ _ _ h (not_equal (length out % 4) 0 _ _ _ r (ap (λ (x : ℕ). packet_call x out) p))
 
-  pub code_over : (out' : List ℕ) → length code ≤ length out / 4 → length out % 4 ≡ 0 → out' ≡ bytes_of code ++ drop (length code * 4) out → a ≡ answer_of 0 0 (length code)
-      → packet_call a out' ≡ code_out code out
-  unfolding code_out
-  code_over out' h r q p = not_less (length out / 4) (length code) _ _ _ h (is_equal (length out % 4) 0 _ _ _ r (rw (p, q)))
+-- a code that a machine can hold is no more than a packet's numbers
+pub code_few : (code : List ℕ) → length code ≤ CODE_WORDS → length code ≤ BYTES
+unfolding CODE_WORDS
+code_few code h = omega arith
 
-  pub code_ragged : length code ≤ length out / 4 → (length out % 4 ≡ 0 → ⊥) → a ≡ answer_of BAD_SIZE 0 0 → packet_call a out ≡ code_out code out
-  unfolding code_out
-  code_ragged h r p = not_less (length out / 4) (length code) _ _ _ h (not_equal (length out % 4) 0 _ _ _ r (ap (λ (x : ℕ). packet_call x out) p))
-
--- a code that a machine can hold: its length fits an answer
-module _ (code : List ℕ) (h : length code ≤ CODE_WORDS) where
-  pub code_small : length code < 2 ^ 24
-  unfolding CODE_WORDS
-  code_small = omega arith
-
-  pub code_fits : Fits w32 (length code)
-  code_fits = record { fits = omega (arith, code_small) }
+pub ruleset handings = (refl, code_few, code_not, code_whole, code_ragged)
 
 -- the code of a listing's numbers, erased into a room that is large enough
 pub items_fit : ITEMS ≤ CODE_WORDS
@@ -73,4 +70,4 @@ pub code_room : length (replicate {A = ℕ} 1024 0) ≡ CODE_WORDS
 unfolding CODE_WORDS
 code_room = length-replicate {A = ℕ} 1024 0
 
-pub ruleset codes = (refl, code_room, words_in_front, code_small, code_fits, code_not, code_over, code_ragged, code_count, code_is, code_within, code_erased)
+pub ruleset codes = (refl, code_room, code_count, code_is, code_within, code_erased)

@@ -2,6 +2,8 @@
 pub mod Bytes  -- words as bytes, lowest first
 pub mod ByteLaws  -- bytes to words and back, both ways
 pub mod Answer  -- the one number that a call answers
+pub mod Done  -- what a call comes to, by the number that it answers
+pub mod DoneLaws  -- a packet that is not accepted
 pub mod RunCall  -- vans_run: the bare machine on byte buffers
 pub mod RunCallLaws  -- for the proofs of the code of vans_run
 pub mod PacketCall  -- what a call on a packet leaves in its one buffer

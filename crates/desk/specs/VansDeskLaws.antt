@@ -88,11 +88,10 @@ whole_means code heap blocks regs =
     (λ z q. let x : ◌≡◌ {A = ℕ} 0 1 = cc in absurd (omega arith))
 
 -- the sizes
-module _ (ns : List ℕ) (code heap blocks regs budget needed : ℕ) (whole right : Bool) (f : Verdict) where
-  pub sizes_are : needed ≡ needed_of (items_in ns) → whole ≡ whole_of code heap blocks regs → right ≡ right_sizes (heap / 4) (blocks / 4) whole → f ≡ sizes_of needed (code / 4) right budget
-      → f ≡ bytes_size ns code heap blocks regs budget
+module _ (ns : List ℕ) (code heap blocks regs budget : ℕ) (whole : Bool) (f : Verdict) where
+  pub sizes_are : whole ≡ whole_of code heap blocks regs → f ≡ sizes_of (needed_of (items_in ns)) (code / 4) (right_sizes (heap / 4) (blocks / 4) whole) budget → f ≡ bytes_size ns code heap blocks regs budget
   unfolding bytes_size
-  sizes_are n w g e = e ∙ (λ i. sizes_of (n i) (code / 4) ((g ∙ ap (right_sizes (heap / 4) (blocks / 4)) w) i) budget)
+  sizes_are w e = e ∙ (λ i. sizes_of (needed_of (items_in ns)) (code / 4) (right_sizes (heap / 4) (blocks / 4) (w i)) budget)
 
 pub ruleset sizings = (refl, sizes_are)
 

@@ -1,5 +1,5 @@
 // vans_desk behind the checker: a listing's numbers served over byte buffers.
-ghost use Rattle.std.specs.Prelude.{◌≡◌, ◌*◌, ◌/◌, ◌≤◌, length};
+ghost use Rattle.std.specs.Prelude.{◌≡◌, ◌/◌, ◌≤◌, length};
 ghost use Rattle.refusals.specs.Refusals.{verdict_in};
 ghost use Rattle.listing.specs.Parts.{items_in};
 ghost use Rattle.eraser.specs.Erase.{needed_of};
@@ -8,14 +8,15 @@ ghost use Rattle.start.specs.ListedLaws.{Indexed};
 ghost use Rattle.service.specs.Desk.{code_for, ran_of};
 ghost use Rattle.desk.specs.Bytes.{words_of};
 ghost use Rattle.desk.specs.VansDesk.{whole_of, ran_bytes, serve_bytes, bytes_size, bytes_fault};
-ghost use Rattle.desk.specs.Loans.{left_in, SameBuffers, WholeLoan};
-ghost use Rattle.desk.specs.Work.{Lent, Fitting, Ready, start_bytes};
+ghost use Rattle.desk.specs.Done.{answer_in, Near};
+ghost use Rattle.desk.specs.Loans.{left_in, SameBuffers};
+ghost use Rattle.desk.specs.Work.{Lent, Fitting, Ready};
 
-use crate::answers::refused;
+use crate::answers::Done;
 use crate::buffers::{Work, over_room};
 use crate::loan::Loan;
-use crate::run_call::{REGS_BYTES, registers, run_over};
-use crate::words::{fill, spill};
+use crate::run_call::{REGS_BYTES, run_over};
+use crate::words::spill;
 use machine::numbers::CODE_WORDS;
 use refusals::Fault;
 
@@ -28,10 +29,11 @@ fn whole(code: usize, heap: usize, blocks: usize, regs: usize) -> bool
 }
 
 // Erases a listing's numbers in front of a buffer that the code fits, and runs it over words.
-fn run_erased(numbers: &[u32], h: &mut [u32], r: [u32; 16], loan: &mut Loan) -> u64
+fn run_erased(numbers: &[u32], h: &mut [u32], r: [u32; 16], loan: &mut Loan) -> Result<Done, Fault>
     requires numbers_in_bounds { needed_of (items_in numbers.now) ≤ length loan.old.out.now / 4 }
     requires lent { Lent (length h.old) (length loan.old.heap.now) (length loan.old.regs.now) }
-    ensures ran { left_in result loan.new ≡ ran_bytes (ran_of numbers.now h.old r loan.old.budget) (code_for numbers.now) loan.old.out.now }
+    ensures ran { left_in (answer_in result) loan.new ≡ ran_bytes (ran_of numbers.now h.old r loan.old.budget) (code_for numbers.now) loan.old.out.now }
+    ensures near { Near result }
     ensures same { SameBuffers loan.old loan.new }
 {
     let mut c = [0; CODE_WORDS];
@@ -42,35 +44,21 @@ fn run_erased(numbers: &[u32], h: &mut [u32], r: [u32; 16], loan: &mut Loan) -> 
 
 // Checks the start over words, and runs.
 #[tactic(auto, using(crate::specs::VansDeskLaws::starts))]
-fn start_over(numbers: &[u32], h: &mut [u32], b: &[u32], r: [u32; 16], loan: &mut Loan) -> u64
+pub fn start_over(
+    numbers: &[u32],
+    h: &mut [u32],
+    b: &[u32],
+    r: [u32; 16],
+    loan: &mut Loan,
+) -> Result<Done, Fault>
     requires fitting { Fitting (length b.now) (length h.old) (length loan.old.heap.now) (length loan.old.regs.now) }
     requires ready { Ready numbers.now (length loan.old.out.now) }
-    ensures served { left_in result loan.new ≡ serve_bytes (start_of numbers.now h.old b.now r) numbers.now h.old r loan.old.out.now loan.old.heap.now loan.old.regs.now loan.old.budget }
+    ensures served { left_in (answer_in result) loan.new ≡ serve_bytes (start_of numbers.now h.old b.now r) numbers.now h.old r loan.old.out.now loan.old.heap.now loan.old.regs.now loan.old.budget }
+    ensures near { Near result }
     ensures same { SameBuffers loan.old loan.new }
 {
-    match start::check(numbers, h, b, &r) {
-        Ok(()) => run_erased(numbers, h, r, loan),
-        Err(fault) => refused(fault),
-    }
-}
-
-// Copies block table and heap into rooms for their words, and starts over these.
-pub fn start_in(t: &mut [u32], h: &mut [u32], numbers: &[u32], loan: &mut Loan) -> u64
-    requires blocks_in_bounds { length loan.old.table.now ≤ length t.old * 4 }
-    requires heap_in_bounds { length loan.old.heap.now ≤ length h.old * 4 }
-    requires whole { WholeLoan loan.old }
-    requires ready { Ready numbers.now (length loan.old.out.now) }
-    ensures served { left_in result loan.new ≡ start_bytes numbers.now loan.old.out.now loan.old.table.now loan.old.heap.now loan.old.regs.now loan.old.budget }
-    ensures same { SameBuffers loan.old loan.new }
-{
-    let heap = &mut *loan.heap;
-    let regs = &mut *loan.regs;
-    fill(loan.table, t);
-    fill(heap, h);
-    let n = loan.table.len() / 4;
-    let m = heap.len() / 4;
-    let r = registers(regs);
-    start_over(numbers, &mut h[..m], &t[..n], r, loan)
+    start::check(numbers, h, b, &r)?;
+    run_erased(numbers, h, r, loan)
 }
 
 // 35, 30 and 34, by the buffers' bytes.
@@ -81,21 +69,25 @@ fn size_fault(numbers: &[u32], loan: &Loan) -> Result<(), Fault>
     let code = loan.out.len();
     let heap = loan.heap.len();
     let blocks = loan.table.len();
-    let needed = eraser::needed(numbers);
     let are_whole = whole(code, heap, blocks, loan.regs.len());
-    let right = service::right_sizes(heap / 4, blocks / 4, are_whole);
-    service::sizes(needed, code / 4, right, loan.budget)
+    service::sizes_for(
+        numbers,
+        code / 4,
+        heap / 4,
+        blocks / 4,
+        are_whole,
+        loan.budget,
+    )
 }
 
 // Serves a listing's numbers: 35, 30 and 34, then the start and the run.
 #[tactic(auto, using(crate::specs::VansDeskLaws::servings))]
-pub fn serve_bytes(numbers: &[u32], loan: &mut Loan) -> u64
+pub fn serve_bytes(numbers: &[u32], loan: &mut Loan) -> Result<Done, Fault>
     requires { Indexed (first_listed numbers.now) }
-    ensures served { left_in result loan.new ≡ serve_bytes (bytes_fault numbers.now loan.old.out.now loan.old.heap.now loan.old.table.now loan.old.regs.now loan.old.budget) numbers.now (words_of loan.old.heap.now) (words_of loan.old.regs.now) loan.old.out.now loan.old.heap.now loan.old.regs.now loan.old.budget }
+    ensures served { left_in (answer_in result) loan.new ≡ serve_bytes (bytes_fault numbers.now loan.old.out.now loan.old.heap.now loan.old.table.now loan.old.regs.now loan.old.budget) numbers.now (words_of loan.old.heap.now) (words_of loan.old.regs.now) loan.old.out.now loan.old.heap.now loan.old.regs.now loan.old.budget }
+    ensures near { Near result }
     ensures same { SameBuffers loan.old loan.new }
 {
-    match size_fault(numbers, loan) {
-        Ok(()) => over_room(Work::Start(numbers), loan),
-        Err(fault) => refused(fault),
-    }
+    size_fault(numbers, loan)?;
+    over_room(Work::Start(numbers), loan)
 }

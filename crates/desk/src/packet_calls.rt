@@ -13,10 +13,11 @@ ghost use Rattle.desk.specs.LentCall.{lent_call};
 ghost use Rattle.desk.specs.ReadCall.{handed_of, vans_read_of};
 ghost use Rattle.desk.specs.CheckCall.{vans_check_of};
 ghost use Rattle.desk.specs.EraseCall.{code_out, erased_out, vans_erase_of};
+ghost use Rattle.desk.specs.Done.{answer_in, Near};
 ghost use Rattle.desk.specs.Loans.{left_in, SameBuffers};
 ghost use Rattle.desk.specs.Calls.{accepted_on, checked_on, task_on};
 
-use crate::answers::{answer, refused, unread};
+use crate::answers::{Done, packed};
 use crate::desk_bytes::serve_bytes;
 use crate::loan::Loan;
 use crate::rooms::in_room;
@@ -26,118 +27,122 @@ use listing::limits::BYTES;
 use machine::numbers::CODE_WORDS;
 use refusals::{Fault, Refusal};
 
-// Hands a packet's numbers over in bytes, where they fit.
+// Hands words over in bytes, where they fit: the numbers of a packet, or a code.
 #[tactic(auto, using(crate::specs::ReadCallLaws::hands))]
-fn hand_over(numbers: &[u32], out: &mut [u8]) -> u64
-    requires { length numbers.now ≤ Limits.BYTES }
-    ensures { packet_call result out.new ≡ handed_of numbers.now (length numbers.now) out.old }
+fn hand_over(words: &[u32], out: &mut [u8]) -> Result<Done, Fault>
+    requires { length words.now ≤ Limits.BYTES }
+    ensures handed { packet_call (answer_in result) out.new ≡ handed_of words.now (length words.now) out.old }
+    ensures near { Near result }
 {
-    let n = numbers.len();
+    let n = words.len();
     if out.len() / 4 < n {
-        return refused(Fault {
+        return Err(Fault {
             refusal: Refusal::DoesNotFit,
             place: n,
         });
     }
-    spill(numbers, out);
-    answer(0, 0, n as u32)
+    spill(words, out);
+    Ok(Done {
+        status: 0,
+        count: n as u32,
+    })
 }
 
 // Reads the packet into a room that has a word for each of its bytes.
 #[tactic(auto, using(crate::specs::ReadCallLaws::reads))]
-fn read_in(room: &mut [u32], packet: &[u8], numbers: &mut [u8]) -> u64
+fn read_in(room: &mut [u32], packet: &[u8], numbers: &mut [u8]) -> Result<Done, Fault>
     requires packet_in_bounds { length packet.now ≤ length room.old }
     requires packet_len_bound { length packet.now ≤ Limits.BYTES }
-    ensures { packet_call result numbers.new ≡ vans_read_of packet.now numbers.old }
+    ensures handed { packet_call (answer_in result) numbers.new ≡ vans_read_of packet.now numbers.old }
+    ensures near { Near result }
 {
-    match listing::read(packet, room) {
-        Ok(n) => hand_over(&room[..n], numbers),
-        Err(error) => unread(error),
-    }
+    let n = listing::read(packet, room)?;
+    hand_over(&room[..n], numbers)
 }
 
-// Hands a code over in bytes, where it fits a buffer of whole words.
-#[tactic(auto, using(crate::specs::EraseCallLaws::codes))]
-fn hand_code(code: &[u32], out: &mut [u8]) -> u64
+// Hands a code over, where it fits a buffer of whole words.
+#[tactic(auto, using(crate::specs::EraseCallLaws::handings))]
+fn hand_code(code: &[u32], out: &mut [u8]) -> Result<Done, Fault>
     requires { length code.now ≤ Numbers.CODE_WORDS }
-    ensures { packet_call result out.new ≡ code_out code.now out.old }
+    ensures handed { packet_call (answer_in result) out.new ≡ code_out code.now out.old }
+    ensures near { Near result }
 {
-    let n = code.len();
-    if out.len() / 4 < n {
-        return refused(Fault {
-            refusal: Refusal::DoesNotFit,
-            place: n,
+    if code.len() <= out.len() / 4 && out.len() % 4 != 0 {
+        return Err(Fault {
+            refusal: Refusal::BadSize,
+            place: 0,
         });
     }
-    if out.len() % 4 == 0 {
-        spill(code, out);
-        return answer(0, 0, n as u32);
-    }
-    refused(Fault {
-        refusal: Refusal::BadSize,
-        place: 0,
-    })
+    hand_over(code, out)
 }
 
 // Erases a listing's numbers.
-fn erase_numbers(numbers: &[u32], out: &mut [u8]) -> u64
-    ensures { packet_call result out.new ≡ erased_out (items_in numbers.now) out.old }
+fn erase_numbers(numbers: &[u32], out: &mut [u8]) -> Result<Done, Fault>
+    ensures handed { packet_call (answer_in result) out.new ≡ erased_out (items_in numbers.now) out.old }
+    ensures near { Near result }
 {
     let mut code = [0; CODE_WORDS];
     let n = eraser::erase(numbers, &mut code) as usize;
     hand_code(&code[..n], out)
 }
 
-// What a task does with the numbers of a packet that is accepted.
+// What a task does with the numbers of a packet that is accepted. A task that reads goes no further than the
+// reader, and what it would do here is the definition's: any but the two is the desk call.
 #[tactic(auto, using(crate::specs::TaskLaws::accepteds))]
-fn accepted_in(task: Task, numbers: &[u32], loan: &mut Loan) -> u64
+fn accepted_in(task: Task, numbers: &[u32], loan: &mut Loan) -> Result<Done, Fault>
     requires { Indexed (first_listed numbers.now) }
-    ensures did { left_in result loan.new ≡ accepted_on task numbers.now loan.old }
+    ensures did { left_in (answer_in result) loan.new ≡ accepted_on task numbers.now loan.old }
+    ensures near { Near result }
     ensures same { SameBuffers loan.old loan.new }
 {
     match task {
-        Task::Check => answer(0, 0, 0),
+        Task::Check => Ok(Done {
+            status: 0,
+            count: 0,
+        }),
         Task::Erase => erase_numbers(numbers, loan.out),
-        _ => serve_bytes(numbers, loan),
+        Task::Read | Task::Desk => serve_bytes(numbers, loan),
     }
 }
 
-// Checks the packet in a room, and goes on by the task where it is accepted.
+// Checks the packet in a room, and goes on by the task where it is accepted. That the packet fits stands in
+// `requires`, here and in the calls around: the prover takes no ghost field beside a `&mut`, and a room is one.
 #[tactic(auto, using(crate::specs::TaskLaws::checkings))]
-fn checked_in(task: Task, room: &mut [u32], packet: &[u8], loan: &mut Loan) -> u64
+fn checked_in(task: Task, room: &mut [u32], packet: &[u8], loan: &mut Loan) -> Result<Done, Fault>
     requires packet_in_bounds { length packet.now ≤ length room.old }
     requires packet_len_bound { length packet.now ≤ Limits.BYTES }
-    ensures did { left_in result loan.new ≡ checked_on task (check_of packet.now) (numbers_in packet.now) loan.old }
+    ensures did { left_in (answer_in result) loan.new ≡ checked_on task (check_of packet.now) (numbers_in packet.now) loan.old }
+    ensures near { Near result }
     ensures same { SameBuffers loan.old loan.new }
 {
-    match checker::check(packet, room) {
-        Ok(n) => accepted_in(task, &room[..n], loan),
-        Err(error) => unread(error),
-    }
+    let n = checker::check(packet, room)?;
+    accepted_in(task, &room[..n], loan)
 }
 
 // The call that a task is, in a room.
 #[tactic(auto, using(crate::specs::TaskLaws::tasks))]
-pub fn task_in(task: Task, room: &mut [u32], packet: &[u8], loan: &mut Loan) -> u64
+pub fn task_in(task: Task, room: &mut [u32], packet: &[u8], loan: &mut Loan) -> Result<Done, Fault>
     requires packet_in_bounds { length packet.now ≤ length room.old }
     requires packet_len_bound { length packet.now ≤ Limits.BYTES }
-    ensures did { left_in result loan.new ≡ task_on task packet.now loan.old }
+    ensures did { left_in (answer_in result) loan.new ≡ task_on task packet.now loan.old }
+    ensures near { Near result }
     ensures same { SameBuffers loan.old loan.new }
 {
     match task {
         Task::Read => read_in(room, packet, loan.out),
-        _ => checked_in(task, room, packet, loan),
+        Task::Check | Task::Erase | Task::Desk => checked_in(task, room, packet, loan),
     }
 }
 
 // The call that a task is: 6, or in a room that is large enough.
 #[tactic(auto, using(crate::specs::TaskLaws::tasks))]
-fn call(task: Task, packet: &[u8], loan: &mut Loan) -> u64
-    ensures did { left_in result loan.new ≡ task_on task packet.now loan.old }
+fn call(task: Task, packet: &[u8], loan: &mut Loan) -> Result<Done, Fault>
+    ensures did { left_in (answer_in result) loan.new ≡ task_on task packet.now loan.old }
+    ensures near { Near result }
     ensures same { SameBuffers loan.old loan.new }
 {
     if BYTES < packet.len() {
-        return refused(Fault {
+        return Err(Fault {
             refusal: Refusal::TooLong,
             place: 0,
         });
@@ -158,7 +163,8 @@ pub extern "C" fn vans_read(packet: &[u8], numbers: &mut [u8]) -> u64
         regs: &mut [],
         budget: 0,
     };
-    call(Task::Read, packet, loan)
+    let done = call(Task::Read, packet, loan);
+    packed(done)
 }
 
 // Checks a packet. The answer holds the refusal and its place, or 0 where it is accepted.
@@ -173,7 +179,8 @@ pub extern "C" fn vans_check(packet: &[u8]) -> u64
         regs: &mut [],
         budget: 0,
     };
-    call(Task::Check, packet, loan)
+    let done = call(Task::Check, packet, loan);
+    packed(done)
 }
 
 // Erases a packet that is accepted. The answer holds the refusal and its place, or 0 and the count of
@@ -189,7 +196,8 @@ pub extern "C" fn vans_erase(packet: &[u8], code: &mut [u8]) -> u64
         regs: &mut [],
         budget: 0,
     };
-    call(Task::Erase, packet, loan)
+    let done = call(Task::Erase, packet, loan);
+    packed(done)
 }
 
 // The desk call on byte buffers. The answer holds the refusal and its place, or the status and the count
@@ -213,5 +221,6 @@ pub extern "C" fn vans_desk(
         regs,
         budget,
     };
-    call(Task::Desk, packet, loan)
+    let done = call(Task::Desk, packet, loan);
+    packed(done)
 }

@@ -29,6 +29,7 @@ fn enter(item: Item, count: u32, addresses: &mut [u32; LABELS as usize])
 {
     if let Item::Label(l) = item {
         let i = l as usize;
+        // By `get_mut` the proof does not close: what its write leaves in the table is not told.
         if i < addresses.len() {
             addresses[i] = count;
         }
@@ -43,7 +44,9 @@ pub fn no_addresses() -> [u32; LABELS as usize]
     [0; LABELS as usize]
 }
 
-// Enters the address of each label, and counts the kept items.
+// Enters the address of each label, and counts the kept items. This pass and that of the words are loops of
+// their own: one pass that takes a closure is no plainer, since the closure's contract has to say again what
+// it makes of the count and the table that it holds.
 pub fn enter_all(numbers: &[u32], addresses: &mut [u32; LABELS as usize]) -> u32
     ensures value { result ≡ needed_of (items_in numbers.now) }
     ensures entered { addresses.new ≡ addresses_from (items_in numbers.now) 0 addresses.old }
@@ -51,7 +54,8 @@ pub fn enter_all(numbers: &[u32], addresses: &mut [u32; LABELS as usize]) -> u32
     let place = items_place(numbers);
     let mut at = place + 1;
     let mut count = 0;
-    // By the iterator over the items this pass is an eighth slower.
+    // Not by the iterator over the items: `erase` takes 15 % longer by it, or 70 % where its `next` writes field
+    // by field, and misses what `vans_erase` and `vans_desk` take against the peer (docs/SPEED.md).
     for _ in 0..count_at(ITEMS, numbers, place) {
         let item = item_at(numbers, at);
         enter(item, count, addresses);

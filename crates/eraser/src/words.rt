@@ -73,7 +73,8 @@ pub fn put_all(numbers: &[u32], addresses: &[u32; LABELS as usize], code: &mut [
     let place = items_place(numbers);
     let mut at = place + 1;
     let mut count = 0;
-    // By the iterator over the items this pass is an eighth slower.
+    // Not by the iterator over the items: `erase` takes 15 % longer by it, and misses what `vans_erase` and
+    // `vans_desk` take against the peer (docs/SPEED.md).
     for _ in 0..count_at(ITEMS, numbers, place) {
         let item = item_at(numbers, at);
         count = put(item, addresses, code, count);

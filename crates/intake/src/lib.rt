@@ -71,14 +71,12 @@ fn read_and_print(
     ensures { Front (count_in result) buf.new }
 {
     let count = read_packet(stdin, buf)?;
-    match print_line(stdout, &buf[..count]) {
-        Ok(()) => Ok(count),
-        Err(_) => Err(Failure::Printing(count)),
-    }
+    print_line(stdout, &buf[..count]).map_err(|_| Failure::Printing(count))?;
+    Ok(count)
 }
 
 // Reads a packet, prints its line, and answers how many bytes were read. What could not be done it says on standard
-// error; where that cannot be written either, nothing is left to say. A program's name may be any bytes, as ever.
+// error, the rest also where a piece of that cannot be written. A program's name may be any bytes, as ever.
 pub fn answer(
     stdin: &mut impl Read,
     stdout: &mut impl Write,
@@ -91,7 +89,8 @@ pub fn answer(
     let answered = read_and_print(stdin, stdout, buf);
     if let Err(failure) = answered {
         let _ = stderr.write_all(program);
-        let _ = writeln!(stderr, ": {failure}");
+        let _ = stderr.write_all(b": ");
+        let _ = writeln!(stderr, "{failure}");
     }
     answered
 }

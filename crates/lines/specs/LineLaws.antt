@@ -1,14 +1,17 @@
--- Laws of the line for the proofs of its code: `verdicts` for what a packet is; a refusal's line by its parts, and the line of a packet in front of a buffer.
-use Rattle.std.specs.Prelude.{ℕ, ◌+◌, ◌^◌, ◌<◌, ◌≤◌, ◌≡◌, refl, List, ◌++◌, drop}
-use Rattle.std.proofs.Common.{arith, sym, ◌∙◌, append_assoc, length-append, length-take-le}
+-- Laws of the line for the proofs of its code: what a packet is, by the length that is required of it; a refusal's line by its parts, and the line of a packet in front of a buffer.
+use Rattle.std.specs.Prelude.{ℕ, ◌+◌, ◌^◌, ◌<◌, ◌≤◌, ◌≡◌, refl, List, ◌++◌, drop, Result, Ok, Err, leb}
+use Rattle.std.proofs.Common.{leb-true, leb-false, arith, sym, ◌∙◌, append_assoc, length-append, length-take-le}
 use Rattle.std.proofs.Math.Path.{ap}
 use Rattle.std.proofs.Math.ListN.{length}
 use Rattle.std.proofs.lemmas.List.Edits.{sets-eq}
-use Rattle.choice.specs.Pick.{is_less}
+use Rattle.choice.specs.Pick.{pick, is_less, each_way}
+use Rattle.refusals.specs.declared.Refusal.TheVariants.{TooLong}
+use Rattle.listing.specs.declared.reading.ReadError.{ReadError}
+use Rattle.listing.specs.declared.reading.ReadError.TheVariants as error
 use Rattle.listing.specs.Taken.{Taken, Fault}
 use Rattle.listing.specs.Limits.{BYTES, TOO_LONG}
 use Rattle.listing.specs.Packet.{taken_of}
-use Rattle.checker.specs.Checked.{Checked, Refused}
+use Rattle.checker.specs.Checked.{Checked, Refused, NoRoom, checked_in}
 use Rattle.checker.specs.Check.{verdict_in, checked_by, checking_of, check_in, check_of}
 use Rattle.checker.specs.CheckLaws.{check_answer}
 use Rattle.lines.specs.Text.{bytes_of}
@@ -20,14 +23,38 @@ use Rattle.lines.specs.PutLaws.{behind}
 
 -- what a packet is: 6 where it is too long, else what the checker answers in a room for any packet
 module _ (packet : List ℕ) (r : Checked) where
-  pub verdict_long : BYTES < length packet → r ≡ Refused TOO_LONG 0 → r ≡ check_of packet
+  verdict_long : BYTES < length packet → r ≡ Refused TOO_LONG 0 → r ≡ check_of packet
   unfolding check_of checked_by taken_of
   verdict_long h p = p ∙ ap (λ (t : Taken). checked_by t (verdict_in packet)) (is_less BYTES (length packet) (Fault TOO_LONG 0) _ _ h refl)
 
   pub verdict_in_room : (room room' : List ℕ) → checking_of r room' ≡ check_in packet room → length packet ≤ BYTES → length room ≡ BYTES → r ≡ check_of packet
   verdict_in_room room room' e h k = check_answer packet room room' r e h (omega arith)
 
-pub ruleset verdicts = (refl, verdict_long, verdict_in_room)
+-- what is so where the length that is required of a packet holds, and where it fails
+module _ (packet : List ℕ) where
+  abbrev required : Result (Unit {0}) ReadError
+  required = pick (leb (length packet) BYTES) (Ok (tt {0})) (Err (error.Refused record { refusal = TooLong; place = 0 }))
+
+  -- a refusal as the answer says it; nothing else is asked of it
+  said : Result (Unit {0}) ReadError → Checked
+  said (Ok u) = NoRoom
+  said (Err x) = checked_in (Err x)
+
+  pub required_holds : (u : Unit {0}) → Ok u ≡ required → length packet ≤ BYTES
+  required_holds u e =
+      each_way (λ (v : Result (Unit {0}) ReadError). Ok u ≡ v → length packet ≤ BYTES) (leb (length packet) BYTES) _ _ (λ t q. leb-true (length packet) BYTES t) (λ t q. absurd (cc)) e
+
+  pub required_fails : (x : ReadError) → Err x ≡ required → checked_in (Err x) ≡ check_of packet
+  unfolding said
+  required_fails x e =
+      each_way
+      (λ (v : Result (Unit {0}) ReadError). Err x ≡ v → checked_in (Err x) ≡ check_of packet)
+      (leb (length packet) BYTES)
+      _
+      _
+      (λ t q. absurd (cc))
+      (λ t q. verdict_long packet (checked_in (Err x)) (leb-false (length packet) BYTES t) (ap said q))
+      e
 
 -- the length of a refusal's line
 refusal_length : (n p : ℕ) → n < 2 ^ 8 → p < 2 ^ 64 → length (refusal_of n p) ≤ LONGEST

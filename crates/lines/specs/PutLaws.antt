@@ -30,16 +30,20 @@ pub behind : (out out₁ out₂ : List ℕ) (at a b : ℕ) (x y : List ℕ) → 
 behind out out₁ out₂ at a b x y e f = f ∙ put_both out at x y (written a out₁) e
 
 -- a text, byte by byte: the whole is what is still to be put
-module _ (whole : Written) (out text : List ℕ) (end i : ℕ) (e : whole ≡ put_of out end (drop i text)) where
-  pub text_more : (out' : List ℕ) → i < length text → out' ≡ set out end (get_or text i 0) → whole ≡ put_of out' (end + 1) (drop (i + 1) text)
+module _ (whole : Written) (out text : List ℕ) (at i : ℕ) (e : whole ≡ put_of out (at + i) (drop i text)) where
+  pub text_more : (out' : List ℕ) → i < length text → out' ≡ set out (at + i) (get_or text i 0) → whole ≡ put_of out' (at + (i + 1)) (drop (i + 1) text)
   text_more out' h p =
+      let behind_it : at + i + 1 ≡ at + (i + 1) = omega arith in
       e
-      ∙ ap (put_of out end) (drop-cons text i 0 h ∙ ap (λ (k : ℕ). get_or text i 0 ∷ drop k text) (sym (add-one i)))
-      ∙ sym (put_byte out end (get_or text i 0) (drop (i + 1) text))
-      ∙ ap (λ (l : List ℕ). put_of l (end + 1) (drop (i + 1) text)) (sym p)
+      ∙ ap (put_of out (at + i)) (drop-cons text i 0 h ∙ ap (λ (k : ℕ). get_or text i 0 ∷ drop k text) (sym (add-one i)))
+      ∙ sym (put_byte out (at + i) (get_or text i 0) (drop (i + 1) text))
+      ∙ ap (λ (l : List ℕ). put_of l (at + i + 1) (drop (i + 1) text)) (sym p)
+      ∙ ap (λ (k : ℕ). put_of out' k (drop (i + 1) text)) behind_it
 
-  pub text_ends : length text ≤ i → written end out ≡ whole
-  text_ends h = put_none out end ∙ ap (put_of out end) (sym (drop_of_length-le text h)) ∙ sym e
+  pub text_ends : length text ≤ i → i ≤ length text → written (at + length text) out ≡ whole
+  text_ends h k =
+      let its_end : at + length text ≡ at + i = omega arith in
+      ap (λ (x : ℕ). written x out) its_end ∙ put_none out (at + i) ∙ ap (put_of out (at + i)) (sym (drop_of_length-le text h)) ∙ sym e
 
 -- a number: one digit, or the digits of a tenth of it and its last
 module _ (out : List ℕ) (at n : ℕ) where

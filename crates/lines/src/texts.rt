@@ -6,6 +6,7 @@ ghost use Rattle.lines.specs.Decimal.{decimal_of};
 ghost use Rattle.lines.specs.Line.{written};
 ghost use Rattle.lines.specs.Put.{put_of, FAR};
 
+// Tested and indexed: of `out.get_mut(at)` the proof does not learn what is then written through it.
 fn put(out: &mut [u8], at: usize, byte: u8)
     ensures { out.new ≡ set out.old at byte }
 {
@@ -15,17 +16,16 @@ fn put(out: &mut [u8], at: usize, byte: u8)
 }
 
 // Puts a text, and answers the place behind it.
+#[tactic(auto, using(crate::specs::PutLaws::puts))]
 pub fn put_text(out: &mut [u8], at: usize, text: &[u8]) -> usize
     requires { at + length text.now < FAR }
     ensures out_after { written result out.new ≡ put_of out.old at text.now }
     ensures near { result ≡ at + length text.now }
 {
-    let mut end = at;
-    for byte in text {
-        put(out, end, *byte);
-        end += 1;
+    for (i, byte) in text.iter().enumerate() {
+        put(out, at + i, *byte);
     }
-    end
+    at + text.len()
 }
 
 // Puts a number in decimal, and answers the place behind it.

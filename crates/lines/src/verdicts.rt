@@ -11,12 +11,13 @@ ghost use Rattle.lines.specs.Put.{put_of};
 use crate::texts::{put_labelled, put_text};
 use listing::ReadError;
 use listing::limits::BYTES;
-use refusals::{Fault, Refusal};
+use refusals::{Fault, Refusal, require};
 
 // The bytes of the longest line, with a number of three digits and a place of twenty.
 pub const LONGEST: usize = 36;
 
-// Room for the numbers of any packet.
+// Room for the numbers of any packet. `service::longest_room` is the like: docs/PROMISES.md names both, and this crate
+// does not stand on `service`.
 pub fn numbers_room() -> [u32; BYTES]
     ensures { length result ≡ Limits.BYTES }
 {
@@ -27,13 +28,11 @@ pub fn numbers_room() -> [u32; BYTES]
 fn verdict(packet: &[u8]) -> Result<usize, ReadError>
     ensures { checked_in result ≡ check_of packet.now }
 {
-    if BYTES < packet.len() {
-        let fault = Fault {
-            refusal: Refusal::TooLong,
-            place: 0,
-        };
-        return Err(ReadError::Refused(fault));
-    }
+    let too_long = Fault {
+        refusal: Refusal::TooLong,
+        place: 0,
+    };
+    require(packet.len() <= BYTES, ReadError::Refused(too_long))?;
     let mut room = numbers_room();
     checker::check(packet, &mut room)
 }

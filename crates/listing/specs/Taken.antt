@@ -2,6 +2,7 @@
 use Rattle.std.specs.Prelude.{ℕ, ◌≡◌, Result, Ok, Err}
 use Rattle.std.proofs.Common.{refl}
 use Rattle.refusals.specs.declared.Fault as fault
+use Rattle.refusals.specs.declared.Refusal.TheVariants.{DoesNotFit}
 use Rattle.refusals.specs.Refusals.{number_of}
 use Rattle.refusals.specs.RefusalLaws.{verdict_unique}
 use Rattle.listing.specs.declared.reading.ReadError.{ReadError}
@@ -17,6 +18,11 @@ abbrev pub taken_in : Result ℕ ReadError → Taken
 taken_in (Ok n) = Listing n
 taken_in (Err (error.Refused fault)) = Fault (number_of fault.refusal) fault.place
 taken_in (Err error.NoRoom) = NoRoom
+
+-- the fault of a packet that is not read; 35 at 0 where there is no room
+abbrev pub fault_for : ReadError → fault.Fault
+fault_for (error.Refused fault) = fault
+fault_for error.NoRoom = record { refusal = DoesNotFit; place = 0 }
 
 -- no two answers of the code are one
 same_fault : (f f' : fault.Fault) → Fault (number_of f.refusal) f.place ≡ Fault (number_of f'.refusal) f'.place → ◌≡◌ {A = Result (Unit {0}) fault.Fault} (Err f) (Err f')

@@ -8,11 +8,12 @@ use crate::limits::{
     EDITION, FIELDS, ITEMS, LABELS, REGISTERS, SHAPES, STACK, TOP_IMMEDIATE, TOP_ITEM, TOP_LEVEL,
     TOP_PART,
 };
-use refusals::Refusal;
+use refusals::{Refusal, require};
 
 // The number that is due, and what its range and the numbers behind it go by: the counts of shapes and
 // labels, to which kinds and labels are held; `more`, the shapes, labels or items that are still to
-// come after this one; and the parts of this one that are still to come after the one due.
+// come after this one; and the parts of this one that are still to come after the one due. They go by
+// position, in which specs/Grammar.antt and its laws take them: `next_of`.
 #[derive(Clone, Copy, Debug, PartialEq, Eq)]
 pub enum Wanted {
     Edition,
@@ -57,28 +58,19 @@ pub enum Wanted {
 fn within(n: u32, low: u32, high: u32) -> Result<(), Refusal>
     ensures { result ≡ outside_of n low high }
 {
-    if n < low {
-        Err(Refusal::OutOfRange)
-    } else if high < n {
-        Err(Refusal::OutOfRange)
-    } else {
-        Ok(())
-    }
+    require((low..=high).contains(&n), Refusal::OutOfRange)
 }
 
 #[tactic(auto, unfolding(crate::specs::Grammar::not_below_of, choice::specs::Pick::pick))]
 fn below(n: u32, end: u32) -> Result<(), Refusal>
     ensures { result ≡ not_below_of n end }
 {
-    if n < end {
-        Ok(())
-    } else {
-        Err(Refusal::OutOfRange)
-    }
+    require(n < end, Refusal::OutOfRange)
 }
 
 // The number that is due where n shapes, fields, labels, stack labels, registers or items are still to
-// come; behind the items nothing is.
+// come; behind the items nothing is. Each asks whether n is 0 as its definition does: checked_sub and a
+// match over what is left are no plainer, but where one side is None.
 
 #[tactic(auto, unfolding(crate::specs::Grammar::shapes_from, choice::specs::Pick::pick))]
 fn shapes_from(shapes: u32, n: u32) -> Wanted
@@ -139,14 +131,12 @@ fn registers_from(shapes: u32, labels: u32, more: u32, n: u32, last: u32) -> Wan
 fn items_from(labels: u32, n: u32) -> Option<Wanted>
     ensures { due_of result ≡ items_from labels n }
 {
-    if n == 0 {
-        None
-    } else {
-        Some(Wanted::ItemNumber(labels, n - 1))
-    }
+    n.checked_sub(1)
+        .map(|more| Wanted::ItemNumber(labels, more))
 }
 
-// The operands of an item number.
+// The operands of an item number. It is matched as the packet's number, as operands_from does: an Item
+// has its operands, and they are not read yet.
 #[tactic(auto, unfolding(crate::specs::Grammar::operands_from, choice::specs::Pick::pick))]
 fn operands_from(labels: u32, more: u32, item: u32) -> Option<Wanted>
     ensures { due_of result ≡ operands_from labels more item }

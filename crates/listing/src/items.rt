@@ -26,7 +26,7 @@ pub enum Item {
     Label(u32),
 }
 
-// The number at a place, 0 where there is none.
+// The number at a place, 0 where there is none, as its clause says: so nobody who reads on owes a bound.
 pub fn number_at(numbers: &[u32], at: usize) -> u32
     ensures { result ≡ get_or numbers.now at 0 }
 {
@@ -42,7 +42,8 @@ pub fn at_most(limit: u32, n: u32) -> u32
     n.min(limit)
 }
 
-// The item of a number and of operands.
+// The item of a number and of operands. Here the packet's number becomes an Item, so it is matched as a
+// number; item_of takes any, also one that no packet has.
 #[tactic(auto, unfolding(crate::specs::Parts::item_of, choice::specs::Pick::pick))]
 fn item_of(n: u32, a: u32, b: u32, c: u32) -> Item
     ensures { result ≡ item_of n a b c }
@@ -74,7 +75,7 @@ pub fn item_at(numbers: &[u32], at: u32) -> Item
     )
 }
 
-// How many numbers an item is.
+// How many numbers an item is, by its number: size_of takes it, so that no Item is made to step over one.
 #[tactic(auto, unfolding(crate::specs::Parts::size_of, choice::specs::Pick::pick))]
 pub fn item_size(n: u32) -> u32
     ensures { result ≡ size_of n }

@@ -97,6 +97,8 @@ pub fn behind_all<P: Part>(numbers: &[u32], first: u32, n: u32) -> u32
     ensures value { result ≡ behind (P.next numbers.now) first n }
     ensures bounded { result ≤ first + P.most * n }
 {
+    // The closure of a fold would take any place, and behind requires one below 2^31: the loop's
+    // invariant holds it there.
     let mut at = first;
     for _ in 0..n {
         at = P::behind(numbers, at);

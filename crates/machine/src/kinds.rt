@@ -1,41 +1,26 @@
 // What a word of each kind does to a running machine.
 
-#![tactic(auto, using(crate::specs::TableLaws::table))]
+#![tactic(auto, using(crate::specs::TableLaws::table), unfolding(choice::specs::Pick::pick))]
 
-ghost use Rattle.std.specs.Prelude.{◌≡◌, ◌≢◌, ◌≤◌, ◌<◌, ◌+◌, ℕ, List, IfOk, IfErr, length};
+ghost use Rattle.std.specs.Prelude.{◌≡◌, ◌+◌, ℕ, List, Ok, Err, eqb};
+ghost use Rattle.choice.specs.Pick.{pick};
 ghost use Rattle.machine.specs.Word.{rd_of, rs_of, halt_in, jmp_in, bnz_in, load_in, store_in, compute_in, compute_immediate_in};
 ghost use Rattle.machine.specs.Arithmetic.{compute_of};
 ghost use Rattle.machine.specs.Step.{read_of, write_of, does_of};
 ghost use Rattle.machine.specs.Stops.{left_at};
-ghost use Rattle.machine.specs.declared.numbers.Stop.TheVariants.{BadWord, BadAddress};
+ghost use Rattle.machine.specs.declared.numbers.Stop.TheVariants.{BadWord};
 
 use crate::arithmetic::{compute, extended};
 use crate::numbers::Stop;
 use crate::registers::Registers;
 use crate::word::Word;
+use refusals::require;
 
 // A word is bad where a part that its kind leaves unused is not 0.
 fn unused(part: usize) -> Result<(), Stop>
-    ensures ok { IfOk result (λ _. part ≡ 0) }
-    ensures err { IfErr result (λ s. (s ≡ BadWord) × (part ≢ 0)) }
+    ensures { result ≡ pick (eqb part 0) (Ok tt) (Err BadWord) }
 {
-    if part == 0 {
-        Ok(())
-    } else {
-        Err(Stop::BadWord)
-    }
-}
-
-// An address is one of a word of the heap.
-fn within(heap: &[u32], at: usize) -> Result<(), Stop>
-    ensures ok { IfOk result (λ _. at < length heap.now) }
-    ensures err { IfErr result (λ s. (s ≡ BadAddress) × (length heap.now ≤ at)) }
-{
-    if at < heap.len() {
-        Ok(())
-    } else {
-        Err(Stop::BadAddress)
-    }
+    require(part == 0, Stop::BadWord)
 }
 
 // The functions below each do what a word of one kind does, and answer the pc where the machine goes
@@ -71,8 +56,8 @@ pub fn load(heap: &[u32], regs: &mut Registers, w: Word) -> Result<usize, Stop>
 {
     unused(w.rt())?;
     let at = regs.address(w.rs(), w.low());
-    within(heap, at)?;
-    regs.write(w.rd(), heap[at]);
+    let word = *heap.get(at).ok_or(Stop::BadAddress)?;
+    regs.write(w.rd(), word);
     Ok(w.next())
 }
 
@@ -81,7 +66,8 @@ pub fn store(heap: &mut [u32], regs: &Registers, w: Word) -> Result<usize, Stop>
 {
     unused(w.rt())?;
     let at = regs.address(w.rd(), w.low());
-    within(heap, at)?;
+    // Not by get_mut: that what it lends is the heap's word, and all others stay, did not close.
+    require(at < heap.len(), Stop::BadAddress)?;
     heap[at] = regs.read(w.rs());
     Ok(w.next())
 }

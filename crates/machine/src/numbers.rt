@@ -16,7 +16,7 @@ pub enum Stop {
 }
 
 impl Stop {
-    // The status of a state that stopped so.
+    // The status of a state that stopped so. A method says which number it is, and a u8 by From would not.
     pub fn status(self) -> u8
         ensures { result ≡ status_of self }
     {

@@ -5,6 +5,8 @@ ghost use Rattle.machine.specs.Step.{read_of, write_of};
 use crate::table::State;
 
 // The sixteen registers with 0 in r0, so that no read has to ask which register it is.
+// Its methods ask for an index below 16, which a word's part is: a type for four bits is no plainer, as every use
+// of it indexes.
 #[derive(Drop)]
 pub struct Registers {
     words: [u32; 16],

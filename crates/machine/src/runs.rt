@@ -9,7 +9,7 @@ ghost use Rattle.machine.specs.RunAnswers.{refusal_in, outcome_in};
 use crate::numbers::{BUDGET, CODE_WORDS, HEAP_WORDS, RUNNING, Stop};
 use crate::registers::Registers;
 use crate::table::{State, act};
-use refusals::Refusal;
+use refusals::{Refusal, require};
 
 // What a run leaves beside the heap: the state, and the count of words acted on.
 #[derive(Clone, Copy)]
@@ -19,20 +19,13 @@ pub struct Ran {
 }
 
 // What the bare machine refuses of a code and a heap of so many words and of a budget.
-#[tactic(auto, using(choice::specs::Pick::cases), unfolding(crate::specs::Run::refusal_of, crate::specs::Numbers::CODE_WORDS, crate::specs::Numbers::HEAP_WORDS, crate::specs::Numbers::BUDGET))]
+#[tactic(auto, unfolding(choice::specs::Pick::pick, crate::specs::Run::refusal_of, crate::specs::Numbers::CODE_WORDS, crate::specs::Numbers::HEAP_WORDS, crate::specs::Numbers::BUDGET))]
 pub fn within_limits(code: usize, heap: usize, budget: u32) -> Result<(), Refusal>
     ensures { number_in result ≡ refusal_of code heap budget }
 {
-    if CODE_WORDS < code {
-        return Err(Refusal::CodeTooLong);
-    }
-    if HEAP_WORDS < heap {
-        return Err(Refusal::BadSize);
-    }
-    if BUDGET < budget {
-        return Err(Refusal::BudgetTooLarge);
-    }
-    Ok(())
+    require(code <= CODE_WORDS, Refusal::CodeTooLong)?;
+    require(heap <= HEAP_WORDS, Refusal::BadSize)?;
+    require(budget <= BUDGET, Refusal::BudgetTooLarge)
 }
 
 // Steps until the machine stops or the budget is used. The registers are in a local that each step is

@@ -25,10 +25,8 @@ pub struct State {
 pub fn act(code: &[u32], heap: &mut [u32], regs: &mut Registers, pc: usize) -> Result<usize, Stop>
     ensures { left_at result regs.new.words pc heap.new ≡ act_of code.now regs.old.words pc heap.old }
 {
-    if code.len() <= pc {
-        return Err(Stop::NoWord);
-    }
-    let w = Word { bits: code[pc], pc };
+    let bits = *code.get(pc).ok_or(Stop::NoWord)?;
+    let w = Word { bits, pc };
     let op = w.opcode();
     match op {
         0 => halt(w),

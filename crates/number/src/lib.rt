@@ -78,15 +78,15 @@ fn with_group(value: u64, scale: u64, b: u8) -> u64
 fn read_groups(bytes: &[u8], first: usize) -> Result<Number, NumberError>
     ensures { found_in result ≡ read_of bytes.now first }
 {
-    // The place is counted beside the groups: first plus their number wraps where no byte stands.
+    // The place is counted beside the groups, since the answer is made of it: first plus their number wraps
+    // where no byte stands, and an iterator gives no place.
     let mut at = first;
     let mut value: u64 = 0;
     let mut scale: u64 = 1;
     for _ in 0..GROUPS {
-        if bytes.len() <= at {
+        let Some(&b) = bytes.get(at) else {
             return Err(NumberError::Ended);
-        }
-        let b = bytes[at];
+        };
         if b < CONTINUES {
             return last(value, scale, b, first, at);
         }
@@ -102,14 +102,11 @@ fn read_groups(bytes: &[u8], first: usize) -> Result<Number, NumberError>
 pub fn read(bytes: &[u8], first: usize) -> Result<Number, NumberError>
     ensures { found_in result ≡ read_of bytes.now first }
 {
-    if first < bytes.len() {
-        let b = bytes[first];
-        if b < CONTINUES {
-            return Ok(Number {
-                value: b as u32,
-                behind: first + 1,
-            });
-        }
+    match bytes.get(first) {
+        Some(&b) if b < CONTINUES => Ok(Number {
+            value: b as u32,
+            behind: first + 1,
+        }),
+        _ => read_groups(bytes, first),
     }
-    read_groups(bytes, first)
 }

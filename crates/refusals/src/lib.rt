@@ -3,7 +3,8 @@
 
 #![tactic(auto)]
 
-ghost use Rattle.std.specs.Prelude.{◌≡◌};
+ghost use Rattle.std.specs.Prelude.{◌≡◌, Ok, Err};
+ghost use Rattle.choice.specs.Pick.{pick};
 ghost use Rattle.refusals.specs.Refusals.{number_of};
 
 // Why something is refused, in the table's order.
@@ -42,7 +43,7 @@ pub enum Refusal {
 }
 
 impl Refusal {
-    // Its number in the table.
+    // Its number in the table. A method says which number it is, and a u8 by From would not.
     pub fn number(self) -> u8
         ensures { result ≡ number_of self }
     {
@@ -55,4 +56,12 @@ impl Refusal {
 pub struct Fault {
     pub refusal: Refusal,
     pub place: usize,
+}
+
+// What has to hold: the error where it does not.
+#[tactic(auto, unfolding(choice::specs::Pick::pick))]
+pub fn require<E: Copy>(holds: bool, error: E) -> Result<(), E>
+    ensures { result ≡ pick holds (Ok tt) (Err error) }
+{
+    if holds { Ok(()) } else { Err(error) }
 }

@@ -1,14 +1,15 @@
--- Laws for the code that goes through a label's stack and registers, number by number: one for each way through a loop. `sames`, `belows`, `pushings` and `mets` hold them.
-use Prim.Native.Nat.{ℕ, suc, ◌+◌, ◌*◌, ◌-◌, ◌<◌, ◌≤◌}
+-- Laws for the code that goes through a label's stack and registers, number by number: one for each way through a loop, or what a chain comes to. `belows` and `pushings` hold some.
+use Prim.Native.Nat.{ℕ, zero, suc, ◌+◌, ◌*◌, ◌-◌, ◌<◌, ◌≤◌}
 use native.Mathlib.Omega.{arith}
-use Rattle.std.specs.Prelude.{◌≡◌, Bool, true, length, eqb}
+use Rattle.std.specs.Prelude.{◌≡◌, Bool, true, length, eqb, ◌&&◌}
+use Rattle.std.specs.List.{list_all, range_with_len, enumerate_from}
 use Rattle.std.proofs.Math.Path.{refl, sym, ap}
 use Rattle.std.proofs.Common.{◌∙◌, drop_of_length-le, drop-cons}
 use Rattle.std.proofs.Math.Bool.{false}
 use mathlib.Core.List.{List, [], ◌∷◌}
 use Rattle.std.proofs.Math.ListN.{get_or, set, take, drop}
 use Rattle.std.proofs.Math.Seq.{take-length}
-use Rattle.choice.specs.Pick.{is_true, is_false, is_equal, not_equal, both as each}
+use Rattle.choice.specs.Pick.{pick, is_equal, both as each}
 use Rattle.listing.specs.Limits.{STACK, REGISTERS}
 use Rattle.listing.specs.Listing.{Register}
 use Rattle.listing.specs.Parts.{parts_from, number_at, count_of, count_at, register_at, registers_place, registers_at, label_at, stack_at}
@@ -35,6 +36,12 @@ part_turn part next at after i count h e =
 part_end : {A : Type 0} (part : ℕ → A) (next : ℕ → ℕ) (at i count : ℕ) → count ≤ i → parts_from part next at (count - i) ≡ []
 part_end part next at i count h = parts_none part next at (count - i) (omega arith)
 
+-- the test of each, and of the rest
+pub and_pick : (b r : Bool) → (b && r) ≡ pick b r false
+unfolding pick
+and_pick true r = refl
+and_pick false r = refl
+
 -- a row of labels against a label's stack, label by label: `answer` is that for all
 abbrev labels_from : List ℕ → ℕ → ℕ → List ℕ
 labels_from ns = parts_from (number_at ns) (λ p. p + 1)
@@ -46,34 +53,22 @@ same_lengths [] (b ∷ t) h = refl
 same_lengths (a ∷ s) [] h = refl
 same_lengths (a ∷ s) (b ∷ t) h = each (λ (r : Bool). false ≡ r) (eqb a b) _ _ (same_lengths s t (λ e. h (ap suc e))) refl
 
-module _ (answer : Bool) (labels ns : List ℕ) (i first count : ℕ) (inv : answer ≡ same_of (drop i labels) (labels_from ns (first + i) (count - i))) (whole : length labels ≡ count) where
-  here : i < length labels → answer ≡ same_of (get_or labels i 0 ∷ drop (i + 1) labels) (number_at ns (first + i) ∷ labels_from ns (first + (i + 1)) (count - (i + 1)))
-  here h =
-      let next : suc i ≡ i + 1 = omega arith in
-      let cells : drop i labels ≡ get_or labels i 0 ∷ drop (i + 1) labels = drop-cons labels i 0 h ∙ ap (λ (n : ℕ). get_or labels i 0 ∷ drop n labels) next in
-      let rest = part_turn (number_at ns) (λ p. p + 1) (first + i) (first + (i + 1)) i count (omega arith) (omega arith) in
-      inv ∙ (λ j. same_of (cells j) (rest j))
+-- all labels, each equal to the number in its place
+pub same_each : (labels ns : List ℕ) (first a : ℕ) → list_all (λ p. eqb p.1 (number_at ns (first + p.0))) (enumerate_from a labels) ≡ same_of labels (labels_from ns (first + a) (length labels))
+unfolding same_of parts_from
+same_each [] ns first a = refl
+same_each (l ∷ labels) ns first a =
+    let next : first + (a + 1) ≡ first + a + 1 = omega arith in
+    and_pick _ _ ∙ ap (λ (r : Bool). pick (eqb l (number_at ns (first + a))) r false)
+    (same_each labels ns first (a + 1) ∙ ap (λ (p : ℕ). same_of labels (labels_from ns p (length labels))) next)
 
-  pub same_turn : (v : ℕ) → i < length labels → v ≡ number_at ns (first + i) → get_or labels i 0 ≡ v → answer ≡ same_of (drop (i + 1) labels) (labels_from ns (first + (i + 1)) (count - (i + 1)))
-  unfolding same_of
-  same_turn v h q e = here h ∙ sym (is_equal (get_or labels i 0) (number_at ns (first + i)) _ _ false (e ∙ q) refl)
-
-  pub same_differs : (v : ℕ) → i < length labels → v ≡ number_at ns (first + i) → (get_or labels i 0 ≡ v → ⊥) → false ≡ answer
-  unfolding same_of
-  same_differs v h q e = sym (here h ∙ sym (not_equal (get_or labels i 0) (number_at ns (first + i)) _ _ _ (λ d. e (d ∙ sym q)) refl))
-
-  pub same_all : length labels ≤ i → true ≡ answer
-  unfolding same_of
-  same_all h = sym (inv ∙ (λ j. same_of (drop_of_length-le labels {i = i} h j) (part_end (number_at ns) (λ p. p + 1) (first + i) i count (omega arith) j)))
-
-pub same_none : (labels ns : List ℕ) (first count : ℕ) → same_of labels (labels_from ns first count) ≡ same_of labels (labels_from ns (first + 0) (count - 0))
-same_none labels ns first count = let at : first ≡ first + 0 = omega arith in let all : count ≡ count - 0 = omega arith in (λ i. same_of labels (labels_from ns (at i) (all i)))
+pub same_stack : (labels ns : List ℕ) (place n : ℕ) → n ≡ length (label_at ns place).stack → length labels ≡ n → same_of labels (labels_from ns (place + 2 + 0) (length labels)) ≡ same_of labels (stack_at ns place)
+same_stack labels ns place n e h =
+    let at : place + 2 + 0 ≡ place + 2 = omega arith in
+    λ i. same_of labels (labels_from ns (at i) ((h ∙ e ∙ stack_length ns place) i))
 
 pub same_short : (labels ns : List ℕ) (place n : ℕ) → n ≡ length (label_at ns place).stack → (length labels ≡ n → ⊥) → false ≡ same_of labels (stack_at ns place)
 same_short labels ns place n e h = same_lengths labels (stack_at ns place) (λ d. h (d ∙ sym e))
-
-pub same_long : (labels ns : List ℕ) (place n : ℕ) → n ≡ length (label_at ns place).stack → length labels ≡ n → length labels ≡ count_at STACK ns (place + 1)
-same_long labels ns place n e h = h ∙ e ∙ stack_length ns place
 
 -- a label on top, and a label's stack below it
 pub below_top : (s labels below : List ℕ) (l : ℕ) (r : Bool) → labels ≡ s → 1 ≤ length labels → get_or labels 0 0 ≡ l → r ≡ same_of (take (length labels - 1) (drop 1 labels)) below → r ≡ same_of s (l ∷ below)
@@ -89,8 +84,6 @@ no_top s [] below l e h = ap (λ (x : List ℕ). same_of x (l ∷ below)) e
 no_top s (a ∷ labels) below l e h = absurd (omega arith)
 
 pub ruleset belows = (refl, below_top, no_top)
-
-pub ruleset sames = (refl, same_turn, same_differs, same_all, same_none, same_short, same_long)
 
 pub label_depth : (ns : List ℕ) (place k v : ℕ) → k ≡ count_of STACK v → v ≡ number_at ns (place + 1) → k ≡ length (label_at ns place).stack
 label_depth ns place k v p q = p ∙ ap (count_of STACK) q ∙ sym (stack_length ns place)
@@ -127,19 +120,6 @@ module _ (registers : List Slot) (ns : List ℕ) (first i count : ℕ) where
   no_register : count ≤ i → registers_from ns (first + 3 * i) (count - i) ≡ []
   no_register h = part_end (register_at ns) (λ p. p + 3) (first + 3 * i) i count h
 
-  module _ (answer : Bool) (inv : answer ≡ met_of registers (registers_from ns (first + 3 * i) (count - i))) where
-    pub met_turn : (b : Bool) → i < count → b ≡ meets registers (register_at ns (first + 3 * i)) → b ≡ true → answer ≡ met_of registers (registers_from ns (first + 3 * (i + 1)) (count - (i + 1)))
-    unfolding met_of
-    met_turn b h e p = inv ∙ ap (met_of registers) (next_register h) ∙ sym (is_true _ _ _ false (sym e ∙ p) refl)
-
-    pub met_not : (b : Bool) → i < count → b ≡ meets registers (register_at ns (first + 3 * i)) → b ≡ false → false ≡ answer
-    unfolding met_of
-    met_not b h e p = sym (inv ∙ ap (met_of registers) (next_register h) ∙ sym (is_false _ _ _ _ (sym e ∙ p) refl))
-
-    pub met_all : count ≤ i → true ≡ answer
-    unfolding met_of
-    met_all h = sym (inv ∙ ap (met_of registers) (no_register h))
-
   pub listed_turn : (answer after : List Slot) (s : Slot) (r : ℕ) → after ≡ set registers r s → answer ≡ with_listed registers (registers_from ns (first + 3 * i) (count - i))
       → r ≡ number_at ns (first + 3 * i) → s ≡ slot_of (register_at ns (first + 3 * i)) → i < count → answer ≡ with_listed after (registers_from ns (first + 3 * (i + 1)) (count - (i + 1)))
   unfolding with_listed
@@ -152,7 +132,21 @@ module _ (registers : List Slot) (ns : List ℕ) (first i count : ℕ) where
   unfolding with_listed
   listed_all answer inv h = sym (inv ∙ ap (with_listed registers) (no_register h))
 
-pub ruleset mets = (refl, met_turn, met_not, met_all)
+-- all registers, each met by its number
+pub met_each : (registers : List Slot) (ns : List ℕ) (first a count : ℕ)
+    → list_all (λ i. meets registers (register_at ns (first + 3 * i))) (range_with_len a count) ≡ met_of registers (registers_from ns (first + 3 * a) count)
+unfolding met_of parts_from
+met_each registers ns first a zero = refl
+met_each registers ns first a (suc count) =
+    let next : first + 3 * (a + 1) ≡ first + 3 * a + 3 = omega arith in
+    and_pick _ _ ∙ ap (λ (r : Bool). pick (meets registers (register_at ns (first + 3 * a))) r false)
+    (met_each registers ns first (a + 1) count ∙ ap (λ (p : ℕ). met_of registers (registers_from ns p count)) next)
+
+pub met_whole : (registers : List Slot) (ns : List ℕ) (place p n : ℕ) → p ≡ registers_place ns place → n ≡ count_at REGISTERS ns p
+    → met_of registers (registers_from ns (p + 1 + 3 * 0) n) ≡ met_of registers (label_at ns place).registers
+met_whole registers ns place p n h e =
+    let at : p + 1 + 3 * 0 ≡ p + 1 = omega arith in
+    (λ i. met_of registers (registers_from ns (at i) (e i))) ∙ (λ i. met_of registers (registers_at ns (h i)))
 
 pub listed_none : (ns : List ℕ) (place p : ℕ) (registers : List Slot) → registers ≡ no_registers → p ≡ registers_place ns place
     → with_listed no_registers (label_at ns place).registers ≡ with_listed registers (registers_from ns (p + 1 + 3 * 0) (count_at REGISTERS ns p - 0))

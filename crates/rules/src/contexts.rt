@@ -9,8 +9,9 @@ use crate::stacks::Stack;
 use levels::join;
 
 // What a context says of a register: whether it is listed, and its kind and level.
-// The kind is a number, as the packet and each rule's row have it: 0 for an integer, k for a pointer to shape k − 1. No
-// Option: `load` and `store` promise their rows for a register that is not listed too, of any kind and level.
+// The kind is a number, as the packet and each rule's row have it: 0 for an integer, k for a pointer to shape k − 1.
+// A flag beside a kind and a level, no Option: `Slot` of specs/Context and of the rows `load_premises` and
+// `store_premises` has a kind and a level at a register that is not listed too, which `load` and `store` may be given.
 #[derive(Clone, Copy, PartialEq, Eq)]
 pub struct Slot {
     pub listed: bool,
@@ -57,6 +58,7 @@ pub fn slot_at(registers: &[Slot; 16], r: u32) -> Slot
 pub fn set_slot(registers: &mut [Slot; 16], r: u32, s: Slot)
     ensures { registers.new ≡ set registers.old r s }
 {
+    // No `get_mut`: the proof doesn't close, since behind an array's `get_mut` only its length is known.
     let i = r as usize;
     if i < registers.len() {
         registers[i] = s;

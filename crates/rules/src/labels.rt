@@ -33,23 +33,21 @@ impl<'a> Label<'a> {
     }
 
     // Whether its stack is of these labels, the top one first.
-    #[tactic(auto, using(crate::specs::HeldLaws::sames))]
+    // No equality of slices: `number_at` reads 0 past the end of the numbers, where no slice of them is.
+    #[tactic(auto, using(crate::specs::HeldLaws::same_short))]
     pub(crate) fn has_stack(self, labels: &[u32]) -> bool
         ensures { result ≡ same_of labels.now (label_in self.entry).stack }
     {
-        if labels.len() != self.depth() as usize {
-            return false;
-        }
         let first = self.place as usize + 2;
-        for (i, l) in labels.iter().enumerate() {
-            if *l != number_at(self.numbers, first + i) {
-                return false;
-            }
-        }
-        true
+        labels.len() == self.depth() as usize
+            && labels
+                .iter()
+                .enumerate()
+                .all(|(i, l)| *l == number_at(self.numbers, first + i))
     }
 
     // Its stack, pushed from its last label up.
+    // A `for` with a push in it, here and in `registers`: a `fold` is no plainer, as it carries the same value by hand.
     #[tactic(auto, using(crate::specs::HeldLaws::pushings))]
     fn stack(self) -> Stack
         ensures { stack_in result ≡ (label_in self.entry).stack }
@@ -92,17 +90,12 @@ impl<'a> Label<'a> {
     }
 
     // Whether each register that it lists is listed now with equal kind and level.
-    #[tactic(auto, using(crate::specs::HeldLaws::mets))]
     pub(crate) fn is_met(self, registers: &[Slot; 16]) -> bool
         ensures { result ≡ met_of registers.now (label_in self.entry).registers }
     {
         let place = self.registers_place();
-        for i in 0..at_most(REGISTERS, number_at(self.numbers, place)) as usize {
-            if !self.meets(registers, place + 1 + 3 * i) {
-                return false;
-            }
-        }
-        true
+        let n = at_most(REGISTERS, number_at(self.numbers, place)) as usize;
+        (0..n).all(|i| self.meets(registers, place + 1 + 3 * i))
     }
 
     // The registers that it lists, and r0.

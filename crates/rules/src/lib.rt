@@ -10,5 +10,6 @@ mod stacks;
 
 pub use contexts::{Held, Slot, set_slot, slot_at};
 pub use labels::Label;
-pub use rules::{bnz, cjmp, compute, compute_immediate, cpush, halt, jump, load, require, store};
+pub use refusals::require;
+pub use rules::{bnz, cjmp, compute, compute_immediate, cpush, halt, jump, load, store};
 pub use stacks::Stack;

@@ -2,8 +2,7 @@
 // row of premises of specs/Rules.antt, in its order.
 #![tactic(auto, unfolding(crate::specs::Rules::first_failing, choice::specs::Pick::pick))]
 
-ghost use Rattle.std.specs.Prelude.{◌≡◌, Ok, Err};
-ghost use Rattle.choice.specs.Pick.{pick};
+ghost use Rattle.std.specs.Prelude.{◌≡◌};
 ghost use Rattle.refusals.specs.Refusals.{number_in};
 ghost use Rattle.levels.specs.Sets.{below_of, join_of};
 ghost use Rattle.rules.specs.Rules.{first_failing, jump_row, halt_row, bnz_row, load_premises, store_premises, compute_row, compute_immediate_row, cpush_row, cjmp_row};
@@ -13,14 +12,7 @@ use crate::contexts::{Held, Slot};
 use crate::labels::Label;
 use levels::{at_or_below, join};
 use listing::limits::STACK;
-use refusals::Refusal;
-
-// A premise: the refusal where it fails.
-pub fn require(holds: bool, refusal: Refusal) -> Result<(), Refusal>
-    ensures { result ≡ pick holds (Ok tt) (Err refusal) }
-{
-    if holds { Ok(()) } else { Err(refusal) }
-}
+use refusals::{Refusal, require};
 
 // A jump, or a fall, to a label, at pc level l.
 pub fn jump(l: u32, c: &Held, target: Label) -> Result<(), Refusal>
@@ -47,6 +39,8 @@ pub fn bnz(c: &Held, rs: u32, target: Label) -> Result<(), Refusal>
 }
 
 // A load by what is said of rd and rs, whether there is such a field, and the field's level.
+// A flag beside the level, no Option: docs/PROMISES.md names `load` and `store`, and their rows, `load_premises` and
+// `store_premises`, speak of the level where there is no such field too, so each may be given any.
 pub fn load(l: u32, rd: u32, d: Slot, s: Slot, has: bool, lc: u32) -> Result<(), Refusal>
     ensures { number_in result ≡ first_failing (load_premises below_of join_of l rd d s has lc) }
 {

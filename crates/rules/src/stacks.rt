@@ -8,6 +8,7 @@ use crate::labels::Label;
 
 // A stack of labels: those from `top` on, the top one first.
 // No ArrayVec: that is not Copy, and its last one comes last, where `stack_in` has it first.
+// No invariant on `top`: `stack_in` holds of any, past the cells of an empty stack, and so does each promise here.
 #[derive(Clone, Copy)]
 pub struct Stack {
     pub top: usize,
@@ -28,11 +29,7 @@ impl Stack {
     pub fn labels(&self) -> &[u32]
         ensures { result.now ≡ stack_in self.now }
     {
-        if self.top < 16 {
-            &self.cells[self.top..]
-        } else {
-            &[]
-        }
+        self.cells.get(self.top..).unwrap_or(&[])
     }
 
     // How many labels are on it.
@@ -47,7 +44,7 @@ impl Stack {
         requires { length (stack_in self.old) < Limits.STACK }
         ensures { stack_in self.new ≡ l ∷ stack_in self.old }
     {
-        let top = if self.top < 16 { self.top - 1 } else { 15 };
+        let top = self.top.min(16) - 1;
         self.cells[top] = l;
         self.top = top;
     }

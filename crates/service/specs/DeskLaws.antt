@@ -16,10 +16,12 @@ use Rattle.machine.specs.declared.table.State.{State}
 use Rattle.machine.specs.Step.{machine_at, machine_of}
 use Rattle.machine.specs.Run.{Outcome, outcome_at, refusal_of, run_of}
 use Rattle.listing.specs.Limits.{BYTES, TOO_LONG}
-use Rattle.listing.specs.Taken.{Taken}
+use Rattle.listing.specs.Taken.{Taken, fault_for}
+use Rattle.listing.specs.declared.reading.ReadError.{ReadError}
+use Rattle.listing.specs.declared.reading.ReadError.TheVariants as error
 use Rattle.listing.specs.Packet.{taken_of, numbers_in}
 use Rattle.listing.specs.Parts.{items_in}
-use Rattle.checker.specs.Checked.{Checked, Accepted, Refused, NoRoom}
+use Rattle.checker.specs.Checked.{Checked, Accepted, Refused, NoRoom, checked_in}
 use Rattle.checker.specs.Check.{checking_of, checked_by, check_in, check_of}
 use Rattle.checker.specs.Check as checker
 use Rattle.checker.specs.CheckLaws.{check_answer, check_count, check_numbers}
@@ -30,24 +32,20 @@ use Rattle.start.specs.Start.{passed, or_else, start_of}
 use Rattle.start.specs.SearchLaws.{first_passes, first_stands}
 use Rattle.service.specs.Numbers.{DOES_NOT_FIT, BLOCK_WORDS}
 use Rattle.service.specs.Desk.{right_sizes, sizes_of, later_fault, code_for, ran_of, Service, DeskCall, desk_call, service_of, refused_call, ran_call, serve_by, desk_by, desk_of}
-use Rattle.service.specs.Served.{service_in, fault_by, desk_fault}
+use Rattle.service.specs.Served.{service_in, fault_in, fault_by, desk_fault}
 
 -- sizes, and then the start
-module _ (ns : List ℕ) (code : ℕ) (whole : Bool) (heap blocks regs : List ℕ) (budget needed : ℕ) (right : Bool)
-    (n : needed ≡ needed_of (items_in ns)) (w : right ≡ right_sizes (length heap) (length blocks) whole) where
+module _ (ns : List ℕ) (code : ℕ) (whole : Bool) (heap blocks regs : List ℕ) (budget : ℕ) where
   abbrev size : Verdict
   size = sizes_of (needed_of (items_in ns)) code (right_sizes (length heap) (length blocks) whole) budget
 
-  is_size : sizes_of needed code right budget ≡ size
-  is_size i = sizes_of (n i) code (w i) budget
-
-  pub later_stands : (e : Fault) → verdict_in (Err e) ≡ sizes_of needed code right budget → verdict_in (Err e) ≡ later_fault ns code whole heap blocks regs budget
+  pub later_stands : (e : Fault) → verdict_in (Err e) ≡ size → verdict_in (Err e) ≡ later_fault ns code whole heap blocks regs budget
   unfolding later_fault
-  later_stands e p = first_stands size (start_of ns heap blocks regs) e (p ∙ is_size)
+  later_stands e p = first_stands size (start_of ns heap blocks regs) e p
 
-  pub later_starts : (r : Verdict) → passed ≡ sizes_of needed code right budget → r ≡ start_of ns heap blocks regs → r ≡ later_fault ns code whole heap blocks regs budget
+  pub later_starts : (r : Verdict) → passed ≡ size → r ≡ start_of ns heap blocks regs → r ≡ later_fault ns code whole heap blocks regs budget
   unfolding later_fault
-  later_starts r z p = first_passes size (start_of ns heap blocks regs) r (z ∙ is_size) p
+  later_starts r z p = first_passes size (start_of ns heap blocks regs) r z p
 
 -- a code that the buffer holds, erased and run
 module _ (ns code code' : List ℕ) (n : ℕ) (fits : needed_of (items_in ns) ≤ length code) (e : erased_by n code' ≡ erase_of ns code) where
@@ -194,13 +192,17 @@ module _ (packet code heap blocks regs : List ℕ) (budget : ℕ) where
         (q ∙ ap (λ (ns : List ℕ). serve_by (later_fault ns (length code) true heap blocks regs budget) ns code heap regs budget) same)
         (s ∙ ap (λ (ns : List ℕ). later_fault ns (length code) true heap blocks regs budget) same)
 
-    pub desk_refused : (k place : ℕ) → c ≡ Refused k place → Answers (verdict_of k place) (desk_call (service_of k place 0 regs) code heap)
+    desk_refused : (k place : ℕ) → c ≡ Refused k place → Answers (verdict_of k place) (desk_call (service_of k place 0 regs) code heap)
     unfolding desk_by fault_by refused_call
     desk_refused k place p = served_as (Refused k place) _ _ (is_check (Refused k place) p) refl refl
 
-    pub desk_no_room : c ≡ NoRoom → Answers (verdict_of DOES_NOT_FIT 0) (desk_call (service_of DOES_NOT_FIT 0 0 regs) code heap)
+    desk_no_room : c ≡ NoRoom → Answers (verdict_of DOES_NOT_FIT 0) (desk_call (service_of DOES_NOT_FIT 0 0 regs) code heap)
     unfolding desk_by fault_by refused_call
     desk_no_room p = served_as NoRoom _ _ (is_check NoRoom p) refl refl
+
+    pub desk_unread : (x : ReadError) → c ≡ checked_in (Err x) → Answers (fault_in (Err (fault_for x))) (desk_call (service_in (Err (fault_for x)) regs) code heap)
+    desk_unread (error.Refused f) p = desk_refused (number_of f.refusal) f.place p
+    desk_unread error.NoRoom p = desk_no_room p
 
     pub room_front : (n : ℕ) → c ≡ Accepted n → length room' ≡ length room → n ≤ length room'
     room_front n p s = omega (arith, check_count packet room room' c e h enough n p)

@@ -8,4 +8,4 @@ mod serving;
 mod sizing;
 
 pub use serving::{Served, longest_room, serve};
-pub use sizing::{right_sizes, sizes};
+pub use sizing::{right_sizes, sizes, sizes_for};

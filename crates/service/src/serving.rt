@@ -9,8 +9,7 @@ ghost use Rattle.service.specs.Desk.{later_fault, serve_by, desk_call, code_for,
 ghost use Rattle.start.specs.Start.{passed};
 ghost use Rattle.service.specs.Served.{service_in, fault_in, desk_fault};
 
-use crate::sizing::{right_sizes, sizes};
-use listing::ReadError;
+use crate::sizing::sizes_for;
 use listing::limits::BYTES;
 use refusals::{Fault, Refusal};
 
@@ -34,12 +33,13 @@ fn later_fault(
 ) -> Result<(), Fault>
     ensures { verdict_in result ≡ later_fault numbers.now code true heap.now blocks.now regs.now budget }
 {
-    let right = right_sizes(heap.len(), blocks.len(), true);
-    sizes(eraser::needed(numbers), code, right, budget)?;
+    sizes_for(numbers, code, heap.len(), blocks.len(), true, budget)?;
     start::check(numbers, heap, blocks, regs)
 }
 
-// Erases a listing's numbers into a buffer that the code fits, and runs it.
+// Erases a listing's numbers into a buffer that the code fits, and runs it. Code, heap, registers and budget are
+// arguments, here and around: of a struct each contract would say besides that its `&mut` are those lent, as
+// `SameBuffers` says of desk's `Loan`.
 fn run_numbers(
     numbers: &[u32],
     code: &mut [u32],
@@ -53,6 +53,7 @@ fn run_numbers(
     ensures unrefused { fault_in result ≡ passed }
 {
     let n = eraser::erase(numbers, code) as usize;
+    // Behind `map_err` and `?` the prover loses what the run left, so its ways are told apart here.
     match machine::run(&code[..n], heap, regs, budget) {
         Ok(ran) => {
             let state = ran.state;
@@ -84,7 +85,8 @@ fn serve_numbers(
     run_numbers(numbers, code, heap, regs, budget)
 }
 
-// Room for the numbers of the longest packet.
+// Room for the numbers of the longest packet. docs/PROMISES.md names it, as it names `lines::numbers_room`, and
+// `lines` does not stand on this crate.
 pub fn longest_room() -> [u32; BYTES]
     ensures { result ≡ replicate Limits.BYTES 0 }
 {
@@ -110,12 +112,6 @@ pub fn serve(
         });
     }
     let mut room = longest_room();
-    match checker::check(packet, &mut room) {
-        Ok(n) => serve_numbers(&room[..n], code, heap, blocks, regs, budget),
-        Err(ReadError::Refused(fault)) => Err(fault),
-        Err(ReadError::NoRoom) => Err(Fault {
-            refusal: Refusal::DoesNotFit,
-            place: 0,
-        }),
-    }
+    let n = checker::check(packet, &mut room)?;
+    serve_numbers(&room[..n], code, heap, blocks, regs, budget)
 }

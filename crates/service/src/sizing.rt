@@ -1,6 +1,8 @@
 // 30, 34 and 35: what is told by sizes alone.
 ghost use Rattle.std.specs.Prelude.{◌≡◌};
 ghost use Rattle.refusals.specs.Refusals.{verdict_in};
+ghost use Rattle.listing.specs.Parts.{items_in};
+ghost use Rattle.eraser.specs.Erase.{needed_of};
 ghost use Rattle.service.specs.Desk.{right_sizes, sizes_of};
 
 use crate::numbers::BLOCK_WORDS;
@@ -40,4 +42,20 @@ pub fn sizes(needed: u32, code: usize, right: bool, budget: u32) -> Result<(), F
         });
     }
     Ok(())
+}
+
+// The same of a listing's numbers: the words of code buffer, heap and block table, and whether buffers of bytes
+// are whole words.
+pub fn sizes_for(
+    numbers: &[u32],
+    code: usize,
+    heap: usize,
+    blocks: usize,
+    whole: bool,
+    budget: u32,
+) -> Result<(), Fault>
+    ensures { verdict_in result ≡ sizes_of (needed_of (items_in numbers.now)) code (right_sizes heap blocks whole) budget }
+{
+    let right = right_sizes(heap, blocks, whole);
+    sizes(eraser::needed(numbers), code, right, budget)
 }

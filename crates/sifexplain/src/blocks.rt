@@ -23,11 +23,11 @@ impl Numbered<'_> {
         Line(self.item())
     }
 
-    // The label that the item places or names, 0 for none.
-    fn label(&self) -> u32 {
+    // The label that the item places.
+    fn placed(&self) -> Option<u32> {
         match self.item() {
-            Item::Jmp(l) | Item::Bnz(_, l) | Item::Cpush(l) | Item::Cjmp(l) | Item::Label(l) => l,
-            _ => 0,
+            Item::Label(l) => Some(l),
+            _ => None,
         }
     }
 }
@@ -63,11 +63,13 @@ pub struct PlacedTwice<'a>(pub Numbered<'a>);
 impl fmt::Display for PlacedTwice<'_> {
     fn fmt<W: fmt::Write>(&self, f: &mut fmt::Formatter<W>) -> fmt::Result {
         let Numbered { packet, i } = self.0;
-        let l = self.0.label();
-        let before = Numbered {
-            packet,
-            i: packet.placed_by(l, i).unwrap_or(i),
+        let Some(l) = self.0.placed() else {
+            return Ok(());
         };
+        let Some(i) = packet.placed_by(l, i) else {
+            return Ok(());
+        };
+        let before = Numbered { packet, i };
         write!(
             f,
             "Wanted: L{l} placed by no item before.\nFound: item {before}.\n"
@@ -81,7 +83,9 @@ pub struct FirstStack<'a>(pub Numbered<'a>);
 
 impl fmt::Display for FirstStack<'_> {
     fn fmt<W: fmt::Write>(&self, f: &mut fmt::Formatter<W>) -> fmt::Result {
-        let l = self.0.label();
+        let Some(l) = self.0.placed() else {
+            return Ok(());
+        };
         let stack = label_stack(self.0.packet, l);
         let labels = Labels(&stack);
         write!(
@@ -111,7 +115,9 @@ pub struct NeverPlaced<'a>(pub Packet<'a>);
 
 impl fmt::Display for NeverPlaced<'_> {
     fn fmt<W: fmt::Write>(&self, f: &mut fmt::Formatter<W>) -> fmt::Result {
-        let l = self.0.first_unplaced();
-        write!(f, "Wanted: an item that places L{l}.\nFound: none.\n")
+        match self.0.first_unplaced() {
+            Some(l) => write!(f, "Wanted: an item that places L{l}.\nFound: none.\n"),
+            None => Ok(()),
+        }
     }
 }

@@ -77,10 +77,10 @@ impl Here<'_> {
         u32::from(self.register(index).slot.level)
     }
 
-    // The field at an offset behind a register's pointer.
-    pub fn field(&self, pointer: u32, offset: u32) -> Field {
-        let kind = self.register(pointer).slot.kind;
-        Field::new(self.packet, pointee(kind).unwrap_or(0), offset)
+    // The field at an offset behind a register's pointer; an integer has none.
+    pub fn field(&self, pointer: u32, offset: u32) -> Option<Field> {
+        let shape = pointee(self.register(pointer).slot.kind)?;
+        Some(Field::new(self.packet, shape, offset))
     }
 }
 

@@ -6,6 +6,8 @@ use listing::Item;
 use refusals::Refusal;
 use std::fmt;
 
+// It is the value that prints itself. Each rule has a function of `f` and `here` behind it: a value for each would hold
+// the same reference, and be printed in one place.
 #[derive(Clone, Copy)]
 pub struct Finding<'a> {
     pub here: &'a Here<'a>,
@@ -33,16 +35,15 @@ impl fmt::Display for Finding<'_> {
     }
 }
 
-// The registers that an item names, in the order in which they are asked for. r0, which breaks no rule of those,
-// stands where there are fewer.
-fn registers(item: Item) -> [u32; 3] {
+// The registers that an item names, in the order in which they are asked for.
+fn registers(item: Item) -> [Option<u32>; 3] {
     match item {
-        Item::Bnz(rs, _) => [rs, 0, 0],
-        Item::Load(rd, rs, _) | Item::Store(rd, _, rs) | Item::ComputeImmediate(_, rd, rs, _) => [
-            rd, rs, 0,
-        ],
-        Item::Compute(_, rd, rs, rt) => [rd, rs, rt],
-        _ => [0, 0, 0],
+        Item::Bnz(rs, _) => [Some(rs), None, None],
+        Item::Load(rd, rs, _) | Item::Store(rd, _, rs) | Item::ComputeImmediate(_, rd, rs, _) => {
+            [Some(rd), Some(rs), None]
+        }
+        Item::Compute(_, rd, rs, rt) => [Some(rd), Some(rs), Some(rt)],
+        _ => [None, None, None],
     }
 }
 
@@ -50,7 +51,8 @@ fn registers(item: Item) -> [u32; 3] {
 fn say_unlisted<W: fmt::Write>(f: &mut fmt::Formatter<W>, here: &Here) -> fmt::Result {
     let unlisted = registers(here.item)
         .iter()
-        .map(|index| here.register(*index))
+        .filter_map(|index| *index)
+        .map(|index| here.register(index))
         .find(|register| !register.slot.listed);
     let Some(register) = unlisted else {
         return Ok(());
@@ -79,7 +81,9 @@ fn say_wrong_sort<W: fmt::Write>(f: &mut fmt::Formatter<W>, here: &Here) -> fmt:
 fn say_no_field<W: fmt::Write>(f: &mut fmt::Formatter<W>, here: &Here) -> fmt::Result {
     match here.item {
         Item::Load(_, pointer, c) | Item::Store(pointer, c, _) => {
-            let field = here.field(pointer, c);
+            let Some(field) = here.field(pointer, c) else {
+                return Ok(());
+            };
             let among = field.among;
             write!(f, "Wanted: a field below {among}.\nFound: {field}.\n")
         }
@@ -92,7 +96,9 @@ fn say_not_the_field<W: fmt::Write>(f: &mut fmt::Formatter<W>, here: &Here) -> f
     let Item::Store(rd, c, rs) = here.item else {
         return Ok(());
     };
-    let field = here.field(rd, c);
+    let Some(field) = here.field(rd, c) else {
+        return Ok(());
+    };
     let wanted = Register {
         index: rs,
         slot: field.slot,
@@ -102,7 +108,7 @@ fn say_not_the_field<W: fmt::Write>(f: &mut fmt::Formatter<W>, here: &Here) -> f
 }
 
 // A jump to a label, a return to it or a fall into it: the first register that the label lists and that does not come with its
-// kind and level. There is one, so it is r15 where it is none before.
+// kind and level.
 fn say_not_met<W: fmt::Write>(f: &mut fmt::Formatter<W>, here: &Here) -> fmt::Result {
     let (Item::Jmp(l) | Item::Bnz(_, l) | Item::Cjmp(l) | Item::Label(l)) = here.item else {
         return Ok(());
@@ -112,9 +118,11 @@ fn say_not_met<W: fmt::Write>(f: &mut fmt::Formatter<W>, here: &Here) -> fmt::Re
         index,
         slot: target.slot(index),
     };
-    let unmet = (1..15).map(listed).find(|wanted| wanted.slot.listed
+    let unmet = (1..16).map(listed).find(|wanted| wanted.slot.listed
         && !here.register(wanted.index).is(wanted.slot));
-    let wanted = unmet.unwrap_or(listed(15));
+    let Some(wanted) = unmet else {
+        return Ok(());
+    };
     let register = here.register(wanted.index);
     write!(
         f,

@@ -27,14 +27,14 @@ impl fmt::Display for Target {
 }
 
 impl Target {
-    // Where an item shows what it goes by; a halt and a cjmp show nothing.
+    // Where an item shows what it goes by; a halt and a cjmp show nothing, nor does a field that is not there.
     fn new(here: &Here) -> Option<Target> {
         match here.item {
             Item::Compute(_, rd, _, _) | Item::ComputeImmediate(_, rd, _, _) => {
                 Some(Target::Register(rd))
             }
-            Item::Load(_, rs, c) => Some(Target::Reached(here.field(rs, c))),
-            Item::Store(rd, c, _) => Some(Target::Written(here.field(rd, c))),
+            Item::Load(_, rs, c) => Some(Target::Reached(here.field(rs, c)?)),
+            Item::Store(rd, c, _) => Some(Target::Written(here.field(rd, c)?)),
             Item::Jmp(l) | Item::Bnz(_, l) | Item::Label(l) => Some(Target::Block(l)),
             Item::Cpush(l) => Some(Target::Pushed(l)),
             Item::Halt | Item::Cjmp(_) => None,

@@ -25,9 +25,20 @@ use crate::packet::Packet;
 use intake::{answer, packet_room};
 use lines::numbers_room;
 use listing::ReadError;
+use std::fmt::{self, Write};
 
-// Where it cannot be written the verdict's line, which comes first, has told so already, and nothing more is said
-// of it here.
+// Standard output, where of a piece that cannot be written nothing is said, and those behind it are tried.
+#[derive(Drop)]
+struct Tried<'a, P>(&'a P);
+
+impl<P: Print> fmt::Write for Tried<'_, P> {
+    fn write_str(&mut self, s: &str) -> fmt::Result {
+        let _ = self.0.write_all(s.as_bytes());
+        Ok(())
+    }
+}
+
+// Where it cannot be written the verdict's line, which comes first, has told so already.
 fn explain(out: &impl Print, bytes: &[u8]) {
     let mut room = numbers_room();
     let Err(ReadError::Refused(fault)) = checker::check(bytes, &mut room) else {
@@ -40,7 +51,7 @@ fn explain(out: &impl Print, bytes: &[u8]) {
         },
         fault,
     };
-    let _ = print!(out; "{explanation}");
+    let _ = write!(Tried(out), "{explanation}");
 }
 
 fn main(rt: HostRuntime) {

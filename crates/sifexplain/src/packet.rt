@@ -37,6 +37,8 @@ impl<'a> Packet<'a> {
         count_at(ITEMS, self.numbers, items_place(self.numbers))
     }
 
+    // An item by its number, which is one of the packet's at each place that asks: of an Option none would say anything
+    // at None.
     pub fn item(&self, i: usize) -> Item {
         self.items().nth(i).unwrap_or(Item::Halt)
     }
@@ -49,21 +51,12 @@ impl<'a> Packet<'a> {
 
     // The item that places a label, of those before item n.
     pub fn placed_by(&self, l: u32, n: usize) -> Option<usize> {
-        self.items().take(n).position(|item| is_label(item, l))
+        self.items().take(n).position(|item| item == Item::Label(l))
     }
 
-    // The first label that no item places: there is one, so it is the last where it is none before.
-    pub fn first_unplaced(&self) -> u32 {
+    // The first label that no item places.
+    pub fn first_unplaced(&self) -> Option<u32> {
         let items = self.item_count() as usize;
-        (0..LABELS)
-            .find(|l| self.placed_by(*l, items).is_none())
-            .unwrap_or(LABELS)
-    }
-}
-
-fn is_label(item: Item, l: u32) -> bool {
-    match item {
-        Item::Label(placed) => placed == l,
-        _ => false,
+        (0..LABELS).find(|l| self.placed_by(*l, items).is_none())
     }
 }

@@ -13,7 +13,7 @@ pub enum Range {
     Kinds(u32),
     // So many labels.
     Labels(u32),
-    // Registers above another, 0 where a label lists none before.
+    // Registers above another, 0 where a label lists none before: `listing::Wanted` has it so, and none lists r0.
     RegistersAbove(u32),
     ItemNumbers,
 }

@@ -22,7 +22,8 @@ impl Stand {
     }
 }
 
-// Where the number begins that has so many before it, or the first with a fault.
+// Where the number begins that has so many before it, or the first with a fault. A `try_fold` is no plainer: the stand
+// is the answer at either end, in its Ok and its Err.
 fn stand_at(bytes: &[u8], before: usize) -> Stand {
     let mut stand = Stand {
         at: 0,

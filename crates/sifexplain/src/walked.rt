@@ -21,15 +21,17 @@ impl<'a> Here<'a> {
     }
 
     // Takes the context past an item that is not refused. Behind a jmp, a halt and a cjmp it does not matter: only a
-    // label can come there. A full stack, to which a push is refused, stays.
+    // label can come there. A full stack, to which a push is refused, stays. `checker` has the like for its walk, and
+    // this cannot call it: that asks for tables of places and for an item that passes, which nothing here has proved.
     fn go_past(&mut self, item: Item) {
         match item {
             Item::Compute(_, rd, _, _) | Item::ComputeImmediate(_, rd, _, _) => {
                 self.held.change(rd, 0)
             }
             Item::Load(rd, rs, c) => {
-                let kind = self.field(rs, c).slot.kind;
-                self.held.change(rd, kind);
+                if let Some(field) = self.field(rs, c) {
+                    self.held.change(rd, field.slot.kind);
+                }
             }
             Item::Bnz(rs, _) => self.held.raise(rs),
             Item::Label(l) => self.held = self.packet.label(l).enter(),

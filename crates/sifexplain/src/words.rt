@@ -6,7 +6,7 @@ use std::fmt;
 // The packet's number of an immediate is so much more than the immediate.
 const ABOVE: i64 = 32768;
 
-// The operation of an item number, in either form.
+// The operation of an item number, in either form: `listing::Item` keeps the packet's number of arithmetic.
 fn operation(n: u32) -> &'static str {
     match n {
         5 | 10 => "add",

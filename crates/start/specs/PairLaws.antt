@@ -60,6 +60,9 @@ unfolding rows_in
 row_stands pairs i base s h p q =
     stands_at (rows_in pairs) i (row_at [] 0) _ (omega (arith, rows_counted pairs)) (get_or-map (λ (r : List ℕ). row_at r 0) pairs i [] (row_at [] 0) h ∙ (λ j. row_of (sym p j) (sym q j)))
 
+pub pair_stands : (pairs : List (List ℕ)) (i : ℕ) → i < length pairs → Stands (rows_in pairs) i (row_at (get_or pairs i []) 0)
+pair_stands pairs i h = row_stands pairs i _ _ h refl refl
+
 -- the words of a block, and the listed registers, one of so many
 module _ (ns : List ℕ) (at count i : ℕ) (h : i < count) where
   pub word_stands : (base : ℕ) → Stands (words_from base (fields_in ns at count)) i (word_of (base + i) (field_at ns (at + 2 * i)))
@@ -82,4 +85,4 @@ words_counted ns at count base = words_length base (fields_in ns at count) ∙ p
 pub registers_counted : (ns : List ℕ) (at count : ℕ) → length (registers_in ns at count) ≡ count
 registers_counted ns at count = parts_length (register_at ns) (λ p. p + 3) at count
 
-pub ruleset stands = (refl, pairs_are_rows, rows_counted, row_stands, word_stands, register_stands, words_counted, registers_counted)
+pub ruleset stands = (refl, pairs_are_rows, rows_counted, pair_stands, word_stands, register_stands, words_counted, registers_counted)

@@ -15,7 +15,25 @@ use refusals::Fault;
 // So many rows of the block table make a table of kinds worth its room.
 const FEW: usize = 16;
 
-// The first refusal behind good rows. A few rows are looked through sooner than a table is cleared.
+// The first refusal behind good rows, whose blocks are these.
+fn check_by<'a>(
+    numbers: &'a [u32],
+    heap: &'a [u32],
+    blocks: Blocks<'a>,
+    regs: &'a [u32],
+) -> Result<(), Fault>
+    ensures { verdict_in result ≡ held_fault (shapes_in numbers.now) (first_listed numbers.now) heap.now (rows_in blocks.entry.rows.now) regs.now }
+{
+    let start = Start {
+        numbers,
+        heap,
+        blocks,
+        regs,
+    };
+    start.check()
+}
+
+// The same of the rows alone. A few are looked through sooner than a table is cleared.
 fn check_held<'a>(
     numbers: &'a [u32],
     heap: &'a [u32],
@@ -26,27 +44,14 @@ fn check_held<'a>(
     ensures { verdict_in result ≡ held_fault (shapes_in numbers.now) (first_listed numbers.now) heap.now (rows_in rows.now) regs.now }
 {
     if rows.len() < FEW {
-        let blocks = Blocks { rows, kinds: &[] };
-        return Start {
-            numbers,
-            heap,
-            blocks,
-            regs,
-        }
-        .check();
+        return check_by(numbers, heap, Blocks { rows, kinds: &[] }, regs);
     }
     let kinds = kinds_of(rows);
     let blocks = Blocks {
         rows,
         kinds: &kinds,
     };
-    Start {
-        numbers,
-        heap,
-        blocks,
-        regs,
-    }
-    .check()
+    check_by(numbers, heap, blocks, regs)
 }
 
 // Whether a start fits a listing's numbers: the first refusal, rows before fields before registers.

@@ -15,7 +15,8 @@ fn no_kinds() -> [u8; ADDRESSES]
     [0; ADDRESSES]
 }
 
-// The kind of the pointers to each block, at its base; 0 where none begins.
+// The kind of the pointers to each block, at its base; 0 where none begins. Bytes and no `Option`s:
+// `Kinds` speaks of numbers, and an `Option` doubles the room that is cleared.
 pub fn kinds_of(rows: &[[u32; 2]]) -> [u8; ADDRESSES]
     requires { Rising (rows_in rows.now) }
     ensures { Kinds (rows_in rows.now) result }
@@ -23,6 +24,7 @@ pub fn kinds_of(rows: &[[u32; 2]]) -> [u8; ADDRESSES]
     let mut kinds = no_kinds();
     for &[base, s] in rows {
         let a = base as usize;
+        // By `get_mut` the proof does not close: what its write leaves in the table is not told.
         if a < ADDRESSES {
             kinds[a] = (s + 1) as u8;
         }

@@ -1,4 +1,4 @@
-use Rattle.std.proofs.Common.{ap, arith, ◌≡◌, length}
+use Rattle.std.proofs.Common.{ap, arith, refl, ◌≡◌, length}
 use Rattle.std.proofs.lemmas.Result.{err_from_is_err_and}
 use Rattle.listing.specs.Parts.{items_in}
 use Rattle.listing.specs.Rest.{items_left}
@@ -31,4 +31,4 @@ returns-in_err-step c =
 pub returns : goal.returns
 returns c =
     at_end _ c.args.listing.now.numbers.now (state_in c.loop-item.standing) c.loop-item.standing.place _ c.loop-item.invariant.0 c.in-None.ensures.steps.0
-    (verdict_in c.end.result) c.args.n c.requires.n_value c.end.ensures
+    (verdict_in c.end.result) _ refl c.end.ensures

@@ -1,4 +1,5 @@
 -- `run_erased` erases into a room that holds any code, and hands code, heap and registers over in bytes.
+-- With these laws under `using`, without a file, the check finds no proof.
 use Rattle.desk.specs.VansDeskLaws.{erasings}
 use borrow.Author.Rules.{rules}
 use Rattle.desk.proofs.desk_bytes.run_erased.Goals as goal

@@ -1,13 +1,19 @@
 -- `checked_in` goes by what the checker says.
 use Rattle.std.proofs.Common.{refl}
+use Rattle.std.proofs.lemmas.Result.{err_from_is_err_and}
+use Rattle.desk.specs.DoneLaws.{unread_answer, unread_near}
 use Rattle.desk.specs.TaskLaws.{front_in_room, error_near, checked_unread}
 use Rattle.desk.proofs.packet_calls.checked_in.Goals as goal
 
 pub slice_bounds-accepted_in-end : goal.slice_bounds-accepted_in-end
-slice_bounds-accepted_in-end c = front_in_room _ _ _ _ c.in-Ok.ensures c.requires.packet_len_bound c.requires.packet_in_bounds _ refl c.check.auto.room
+slice_bounds-accepted_in-end c = front_in_room _ _ _ _ c.in_ok-n.ensures c.requires.packet_len_bound c.requires.packet_in_bounds _ refl c.check.auto.room
 
-pub unread-requires : goal.unread-requires
-unread-requires c = error_near _ _ _ _ c.in-Err.ensures c.requires.packet_len_bound c.requires.packet_in_bounds _ refl
+pub returns-in_err-n-clause-did : goal.returns-in_err-n-clause-did
+returns-in_err-n-clause-did c =
+    let p = err_from_is_err_and c.from_residual.result c.from_residual.ensures.1 in
+    rw (p.1, p.2) (checked_unread _ _ _ _ c.in_err-n.ensures c.requires.packet_len_bound c.requires.packet_in_bounds _ _ _ _ _ _ _ _ refl (unread_answer c.in_err-n.field-0.0 _ refl))
 
-pub returns-in-Err-clause-did : goal.returns-in-Err-clause-did
-returns-in-Err-clause-did c = checked_unread _ _ _ _ c.in-Err.ensures c.requires.packet_len_bound c.requires.packet_in_bounds _ _ _ _ _ _ _ _ refl c.unread.ensures
+pub returns-in_err-n-clause-near : goal.returns-in_err-n-clause-near
+returns-in_err-n-clause-near c =
+    let p = err_from_is_err_and c.from_residual.result c.from_residual.ensures.1 in
+    rw (p.1, p.2) (unread_near c.in_err-n.field-0.0 _ refl (error_near _ _ _ _ c.in_err-n.ensures c.requires.packet_len_bound c.requires.packet_in_bounds _ refl))

@@ -1,4 +1,5 @@
 -- `erase_numbers` erases into a room that holds any code.
+-- With these laws under `using`, without a file, the check finds no proof.
 use Rattle.desk.specs.EraseCallLaws.{codes}
 use borrow.Author.Rules.{rules}
 use Rattle.desk.proofs.packet_calls.erase_numbers.Goals as goal

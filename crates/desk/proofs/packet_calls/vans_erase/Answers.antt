@@ -1,5 +1,6 @@
 -- `vans_erase` is its task.
 use Rattle.std.proofs.Common.{◌≡◌, arith, refl}
+use Rattle.desk.specs.Done.{answer_in}
 use Rattle.desk.specs.PacketCall.{packet_call}
 use Rattle.desk.specs.EraseCall.{vans_erase_of}
 use Rattle.desk.specs.TaskLaws.{call_erases}
@@ -7,6 +8,6 @@ use Rattle.desk.proofs.packet_calls.vans_erase.Goals as goal
 
 pub returns : goal.returns
 returns c =
-    let e : packet_call c.call.result c.call.new.loan.out.now ≡ vans_erase_of c.args.packet.now c.args.code.now =
-    call_erases _ _ _ _ _ _ _ _ _ _ _ c.call.ensures.did refl in
-    grind arith
+    let e : packet_call (answer_in c.call-done.result) c.call-done.new.loan.out.now ≡ vans_erase_of c.args.packet.now c.args.code.now =
+    call_erases _ _ _ _ _ _ _ _ _ _ _ c.call-done.ensures.did refl in
+    rw c.packed.ensures (grind arith)

@@ -1,3 +1,4 @@
+-- Named in `using` on the function, these laws do not close the goals: `search` finds their premises, and `grind` does not.
 use Rattle.std.proofs.Common.{rules}
 use Rattle.lines.specs.PutLaws.{puts}
 use Rattle.lines.proofs.texts.+put_decimal.Goals as goal

@@ -5,5 +5,5 @@ use lib.ListN.{length, drop}
 use Rattle.lines.specs.Put.{put_of}
 use Rattle.lines.proofs.texts.put_text.Given as goal
 
-abbrev pub invariant-loop-byte : goal.invariant-loop-byte
-invariant-loop-byte l = (length l.out ≡ length l.initial.out) × (l.end ≡ l.at + l.byte-index) × (put_of l.initial.out l.at l.text ≡ put_of l.out l.end (drop l.byte-index l.text))
+abbrev pub invariant-loop-i : goal.invariant-loop-i
+invariant-loop-i l = (length l.out ≡ length l.initial.out) × (put_of l.initial.out l.at l.text ≡ put_of l.out (l.at + l.i) (drop l.i l.text))

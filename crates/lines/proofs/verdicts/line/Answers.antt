@@ -1,4 +1,5 @@
 -- `line` puts the line of the packet's verdict, which fits the buffer.
+-- Named in `using` on the function, these laws do not close the goals: `search` finds their premises, and `grind` does not.
 use Rattle.lines.specs.LineLaws.{whole_line}
 use borrow.Author.Rules.{rules}
 use Rattle.lines.proofs.verdicts.line.Goals as goal

@@ -1,9 +1,10 @@
--- `serve` goes by what the checker says: each arm is a law.
+-- `serve` goes by what the checker says: each way is a law.
 use Rattle.std.proofs.Common.{◌≡◌, ℕ, List, length, arith, ap, refl, ◌∙◌}
 use Rattle.std.proofs.Math.ListN.{replicate}
 use Rattle.std.proofs.lemmas.List.{length-replicate}
+use Rattle.std.proofs.lemmas.Result.{err_from_is_err_and}
 use Rattle.listing.specs.Limits.{BYTES}
-use Rattle.service.specs.DeskLaws.{desk_too_long, desk_accepted, desk_refused, desk_no_room, room_front, room_front_is}
+use Rattle.service.specs.DeskLaws.{desk_too_long, desk_accepted, desk_unread, room_front, room_front_is}
 use Rattle.service.proofs.serving.serve.Goals as goal
 
 -- the room has a word for each byte of a packet
@@ -14,24 +15,18 @@ pub returns-then-packet-gt-BYTES : goal.returns-then-packet-gt-BYTES
 returns-then-packet-gt-BYTES c = let a = desk_too_long _ _ _ _ _ _ c.if-packet-gt-BYTES.true in record { served = a.0; refused = a.1 }
 
 pub slice_bounds-room-end : goal.slice_bounds-room-end
-slice_bounds-room-end c = room_front _ c.args.code.now c.args.heap.now c.args.blocks.now c.args.regs c.args.budget _ _ _ c.in-Ok.ensures (omega arith) (whole _ c.longest_room-room.ensures) _ refl c.check.auto.room
+slice_bounds-room-end c = room_front _ c.args.code.now c.args.heap.now c.args.blocks.now c.args.regs c.args.budget _ _ _ c.in_ok-n.ensures (omega arith) (whole _ c.longest_room-room.ensures) _ refl c.check.auto.room
 
 pub slice_bounds-serve_numbers-end : goal.slice_bounds-serve_numbers-end
-slice_bounds-serve_numbers-end c = room_front_is _ c.args.code.now c.args.heap.now c.args.blocks.now c.args.regs c.args.budget _ _ _ c.in-Ok.ensures (omega arith) (whole _ c.longest_room-room.ensures) _ refl c.check.auto.room
+slice_bounds-serve_numbers-end c = room_front_is _ c.args.code.now c.args.heap.now c.args.blocks.now c.args.regs c.args.budget _ _ _ c.in_ok-n.ensures (omega arith) (whole _ c.longest_room-room.ensures) _ refl c.check.auto.room
 
-pub returns-in-Ok : goal.returns-in-Ok
-returns-in-Ok c =
-    let a = desk_accepted _ c.args.code.now c.args.heap.now c.args.blocks.now c.args.regs c.args.budget _ _ _ c.in-Ok.ensures (omega arith) (whole _ c.longest_room-room.ensures) _ _ _ refl c.serve_numbers.ensures.served c.serve_numbers.ensures.refused in
-    record { served = a.0; refused = a.1 }
+pub returns-in_err-n : goal.returns-in_err-n
+returns-in_err-n c =
+    let p = err_from_is_err_and c.from_residual.result c.from_residual.ensures.1 in
+    let a = desk_unread _ c.args.code.now c.args.heap.now c.args.blocks.now c.args.regs c.args.budget _ _ _ c.in_err-n.ensures (omega arith) (whole _ c.longest_room-room.ensures) c.in_err-n.field-0.0 refl in
+    rw (p.1, p.2) (record { served = a.0; refused = a.1 })
 
-pub returns-in-Err-Refused : goal.returns-in-Err-Refused
-returns-in-Err-Refused c =
-    let e = rw c.in-Err-Refused.field-0-is at c.in-Err-Refused.ensures in
-    let a = desk_refused _ c.args.code.now c.args.heap.now c.args.blocks.now c.args.regs c.args.budget _ _ _ e (omega arith) (whole _ c.longest_room-room.ensures) _ _ refl in
-    rw c.in-Err-Refused.field-0-is (record { served = a.0; refused = a.1 })
-
-pub returns-in-Err-NoRoom : goal.returns-in-Err-NoRoom
-returns-in-Err-NoRoom c =
-    let e = rw c.in-Err-NoRoom.field-0-is at c.in-Err-NoRoom.ensures in
-    let a = desk_no_room _ c.args.code.now c.args.heap.now c.args.blocks.now c.args.regs c.args.budget _ _ _ e (omega arith) (whole _ c.longest_room-room.ensures) refl in
+pub returns : goal.returns
+returns c =
+    let a = desk_accepted _ c.args.code.now c.args.heap.now c.args.blocks.now c.args.regs c.args.budget _ _ _ c.in_ok-n.ensures (omega arith) (whole _ c.longest_room-room.ensures) _ _ _ refl c.serve_numbers.ensures.served c.serve_numbers.ensures.refused in
     record { served = a.0; refused = a.1 }

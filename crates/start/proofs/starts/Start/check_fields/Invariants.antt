@@ -6,7 +6,7 @@ use Rattle.start.specs.Start.{first_of, block_fault, fields_fault}
 use Rattle.start.specs.PairLaws.{rows_in}
 use Rattle.start.proofs.starts.Start.check_fields.Given as goal
 
-abbrev pub invariant-loop-base : goal.invariant-loop-base
-invariant-loop-base l =
+abbrev pub invariant-loop-row : goal.invariant-loop-row
+invariant-loop-row l =
     fields_fault (shapes_in l.self.numbers.now) (rows_in l.self.blocks.rows.now) l.self.heap.now
-    ≡ first_of (block_fault (shapes_in l.self.numbers.now) (rows_in l.self.blocks.rows.now) l.self.heap.now) (drop l.base-index (rows_in l.self.blocks.rows.now))
+    ≡ first_of (block_fault (shapes_in l.self.numbers.now) (rows_in l.self.blocks.rows.now) l.self.heap.now) (drop l.row-index (rows_in l.self.blocks.rows.now))
