@@ -4,7 +4,8 @@ ghost use Rattle.desk.specs.Done.{answer_in, unplaced_of, Near};
 
 use refusals::{Fault, Refusal};
 
-// A call that is served: the status of its run, 0 where nothing runs, and a count.
+// A call that is served: the status of its run, 0 where nothing runs, and a count. The status is a number, as
+// `State` has it: an enum is no plainer, since the number is what C is answered.
 #[derive(Clone, Copy)]
 pub struct Done {
     pub status: u8,
@@ -25,7 +26,7 @@ pub fn packed(done: Result<Done, Fault>) -> u64
     }
 }
 
-// A refusal that names no place.
+// A refusal that names no place. No `From`: it would say so of any refusal, and most have a place.
 pub fn unplaced(refusal: Refusal) -> Fault
     ensures { result ≡ unplaced_of refusal }
 {

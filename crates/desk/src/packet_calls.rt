@@ -27,7 +27,8 @@ use listing::limits::BYTES;
 use machine::numbers::CODE_WORDS;
 use refusals::{Fault, Refusal};
 
-// Hands words over in bytes, where they fit: the numbers of a packet, or a code.
+// Hands words over in bytes, where they fit: the numbers of a packet, or a code. That a place fits the answer
+// stands in the clause `near`, here and in all that may refuse: of a type with that fact each `?` would have to make one.
 #[tactic(auto, using(crate::specs::ReadCallLaws::hands))]
 fn hand_over(words: &[u32], out: &mut [u8]) -> Result<Done, Fault>
     requires { length words.now ≤ Limits.BYTES }

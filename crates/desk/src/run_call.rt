@@ -56,7 +56,8 @@ fn put_back(h: &[u32], r: [u32; 16], loan: &mut Loan)
     spill(&r, loan.regs);
 }
 
-// Runs over words, and copies heap and registers into the buffers.
+// Runs over words, and copies heap and registers into the buffers. Words, registers and loan come one by one,
+// here and around: a struct of them is no plainer, since it could not say that the words are the loan's.
 pub fn run_over(c: &[u32], h: &mut [u32], r: [u32; 16], loan: &mut Loan) -> Result<Done, Fault>
     requires { Lent (length h.old) (length loan.old.heap.now) (length loan.old.regs.now) }
     ensures ran { left_in (answer_in result) loan.new ≡ beside_code loan.old.out.now (in_bytes (run_of c.now h.old r loan.old.budget)) }

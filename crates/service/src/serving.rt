@@ -13,7 +13,8 @@ use crate::sizing::sizes_for;
 use listing::limits::BYTES;
 use refusals::{Fault, Refusal};
 
-// What the desk serves: the status that the run ended with, the count of words acted on, and the registers.
+// What the desk serves: the status that the run ended with, as `State` has it, the count of words acted on, and
+// the registers. It has no pc, so a run's `Ran` is taken apart for it.
 #[derive(Clone, Copy, Debug, PartialEq, Eq)]
 pub struct Served {
     pub status: u8,
@@ -53,7 +54,7 @@ fn run_numbers(
     ensures unrefused { fault_in result ≡ passed }
 {
     let n = eraser::erase(numbers, code) as usize;
-    // Behind `map_err` and `?` the prover loses what the run left, so its ways are told apart here.
+    // No `map_err` and `?`: behind them the proof does not close by what closes these two arms.
     match machine::run(&code[..n], heap, regs, budget) {
         Ok(ran) => {
             let state = ran.state;
