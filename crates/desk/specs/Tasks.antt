@@ -1,6 +1,7 @@
 -- The calls on packets by their task, for the code that makes a room for each: 0 reads, 1 checks, 2 erases, any other is the desk call. A task leaves the buffers that it is not lent as they are.
-use Rattle.std.specs.Prelude.{ℕ, List, length, eqb}
+use Rattle.std.specs.Prelude.{ℕ, List, length, eqb, leb}
 use Rattle.choice.specs.Pick.{pick}
+use Rattle.listing.specs.Limits.{BYTES}
 use Rattle.listing.specs.Packet.{numbers_in}
 use Rattle.checker.specs.Checked.{Checked, Accepted}
 use Rattle.checker.specs.Check.{check_of}
@@ -23,6 +24,12 @@ MIDDLE_PACKET = 4096
 
 abbrev pub LONG_PACKET : ℕ
 LONG_PACKET = 20480
+
+-- and the room that a packet of so many bytes has: the smallest that it fits
+unfoldable pub packet_room : ℕ → ℕ
+packet_room bytes =
+    pick (leb bytes SMALL_PACKET) SMALL_PACKET
+    (pick (leb bytes SHORT_PACKET) SHORT_PACKET (pick (leb bytes MIDDLE_PACKET) MIDDLE_PACKET (pick (leb bytes LONG_PACKET) LONG_PACKET BYTES)))
 
 -- by what the checker says of a packet, and its numbers
 unfoldable pub checked_task : ℕ → Checked → List ℕ → List ℕ → List ℕ → List ℕ → List ℕ → ℕ → LentCall

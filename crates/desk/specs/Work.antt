@@ -1,5 +1,5 @@
 -- What is done over the words of lent buffers, by a number, for the code that makes room for them: 0 runs the code that the table is, any other starts the listing whose numbers are lent, over the block rows that the table is. Rooms decide what a call costs, and no answer.
-use Rattle.std.specs.Prelude.{ℕ, ◌*◌, ◌/◌, ◌%◌, ◌≤◌, ◌≡◌, List, eqb}
+use Rattle.std.specs.Prelude.{ℕ, ◌*◌, ◌/◌, ◌%◌, ◌≤◌, ◌≡◌, Bool, true, false, List, eqb}
 use Rattle.choice.specs.Pick.{pick}
 use Rattle.machine.specs.Numbers.{CODE_WORDS, HEAP_WORDS}
 use Rattle.listing.specs.Parts.{items_in}
@@ -14,6 +14,12 @@ use Rattle.desk.specs.VansDesk.{serve_bytes}
 -- the most words of a small table, and of a small heap
 abbrev pub SMALL_WORDS : ℕ
 SMALL_WORDS = 64
+
+-- the rooms that there are for a table and a heap, by their words: small ones, and a code's beside one of two heaps'
+unfoldable pub are_rooms : ℕ → ℕ → Bool
+are_rooms table heap =
+    pick (eqb table SMALL_WORDS) (eqb heap SMALL_WORDS)
+    (pick (eqb table CODE_WORDS) (pick (eqb heap CODE_WORDS) true (eqb heap HEAP_WORDS)) false)
 
 -- buffers of so many bytes are whole words, within the limits, and sixteen registers
 pub record Whole (table heap regs : ℕ) : Type 0 where

@@ -42,7 +42,9 @@ fn run_erased(numbers: &[u32], h: &mut [u32], r: [u32; 16], loan: &mut Loan) -> 
     run_over(&c[..n], h, r, loan)
 }
 
-// Checks the start over words, and runs.
+// Checks the start over words, and runs. It keeps a frame of its own, for the code and the kinds of the blocks: within
+// `over_words` a bare run would make that frame too.
+#[inline(never)]
 #[tactic(auto, using(crate::specs::VansDeskLaws::starts))]
 pub fn start_over(
     numbers: &[u32],

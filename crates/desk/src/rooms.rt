@@ -4,6 +4,7 @@ ghost use Rattle.listing.specs.Limits;
 ghost use Rattle.desk.specs.Done.{answer_in, Near};
 ghost use Rattle.desk.specs.Loans.{left_in, SameBuffers};
 ghost use Rattle.desk.specs.Calls.{task_on};
+ghost use Rattle.desk.specs.Tasks.{packet_room};
 
 use crate::answers::Done;
 use crate::loan::Loan;
@@ -26,6 +27,7 @@ const LONG_PACKET: usize = 20480;
 #[inline(never)]
 fn in_room_of<const N: usize>(task: Task, packet: &[u8], loan: &mut Loan) -> Result<Done, Fault>
     requires room { N ≤ Limits.BYTES }
+    requires smallest { N ≡ packet_room (length packet.now) }
     requires packet_in_bounds { length packet.now ≤ N }
     ensures did { left_in (answer_in result) loan.new ≡ task_on task packet.now loan.old }
     ensures near { Near result }
@@ -36,6 +38,7 @@ fn in_room_of<const N: usize>(task: Task, packet: &[u8], loan: &mut Loan) -> Res
 }
 
 // In the smallest room that the packet fits: a short one does not pay for clearing the longest one's room.
+#[tactic(auto, using(choice::specs::Pick::cases), unfolding(crate::specs::Tasks::packet_room))]
 pub fn in_room(task: Task, packet: &[u8], loan: &mut Loan) -> Result<Done, Fault>
     requires { length packet.now ≤ Limits.BYTES }
     ensures did { left_in (answer_in result) loan.new ≡ task_on task packet.now loan.old }

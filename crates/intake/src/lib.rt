@@ -12,7 +12,7 @@ ghost use Rattle.lines.specs.Line.{Front};
 use lines::LONGEST;
 use listing::limits::BYTES;
 use std::fmt;
-use std::io::{self, Read, Write};
+use std::io::{self, Cursor, Read, Write};
 
 // One byte more than a packet may have: enough to tell that one is too long.
 const MOST: usize = BYTES + 1;
@@ -75,8 +75,17 @@ fn read_and_print(
     Ok(count)
 }
 
+// Says on standard error what a program could not do, in two pieces: where one cannot be written the other is tried.
+fn complain(stderr: &mut impl Write, program: &[u8], failure: Failure) {
+    let mut text = Cursor::new([0u8; 64]);
+    let _ = writeln!(text, ": {failure}");
+    let end = text.position() as usize;
+    let _ = stderr.write_all(program);
+    let _ = stderr.write_all(text.get_ref().get(..end).unwrap_or(&[]));
+}
+
 // Reads a packet, prints its line, and answers how many bytes were read. What could not be done it says on standard
-// error, the rest also where a piece of that cannot be written. A program's name may be any bytes, as ever.
+// error. A program's name may be any bytes, as ever.
 pub fn answer(
     stdin: &mut impl Read,
     stdout: &mut impl Write,
@@ -88,9 +97,7 @@ pub fn answer(
 {
     let answered = read_and_print(stdin, stdout, buf);
     if let Err(failure) = answered {
-        let _ = stderr.write_all(program);
-        let _ = stderr.write_all(b": ");
-        let _ = writeln!(stderr, "{failure}");
+        complain(stderr, program, failure);
     }
     answered
 }

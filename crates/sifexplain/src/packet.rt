@@ -54,9 +54,17 @@ impl<'a> Packet<'a> {
         self.items().take(n).position(|item| item == Item::Label(l))
     }
 
-    // The first label that no item places.
+    // The first label that no item places. The items are gone through once: by `placed_by` each would be made again for
+    // each label.
     pub fn first_unplaced(&self) -> Option<u32> {
-        let items = self.item_count() as usize;
-        (0..LABELS).find(|l| self.placed_by(*l, items).is_none())
+        let mut placed = [false; LABELS as usize];
+        for item in self.items() {
+            if let Item::Label(l) = item
+                && let Some(here) = placed.get_mut(l as usize)
+            {
+                *here = true;
+            }
+        }
+        (0..LABELS).find(|l| !placed[*l as usize])
     }
 }

@@ -2,7 +2,7 @@
 ghost use Rattle.std.specs.Prelude.{◌≡◌};
 ghost use Rattle.listing.specs.Parts.{shapes_in};
 ghost use Rattle.refusals.specs.Refusals.{verdict_in};
-ghost use Rattle.start.specs.KindLaws.{Rising};
+ghost use Rattle.start.specs.KindLaws.{Kinds, Rising};
 ghost use Rattle.start.specs.PairLaws.{rows_in};
 ghost use Rattle.start.specs.Start.{first_listed, held_fault, start_of};
 
@@ -15,19 +15,22 @@ use refusals::Fault;
 // So many rows of the block table make a table of kinds worth its room.
 const FEW: usize = 16;
 
-// The first refusal behind good rows, whose blocks are these.
+// The first refusal behind good rows, with the table of their kinds. Rows and table come one by one, and are made
+// `Blocks` here: of a table whose place is stored where it is made the compiler makes a copy.
 fn check_by<'a>(
     numbers: &'a [u32],
     heap: &'a [u32],
-    blocks: Blocks<'a>,
+    rows: &'a [[u32; 2]],
+    kinds: &'a [u8],
     regs: &'a [u32],
 ) -> Result<(), Fault>
-    ensures { verdict_in result ≡ held_fault (shapes_in numbers.now) (first_listed numbers.now) heap.now (rows_in blocks.entry.rows.now) regs.now }
+    requires { Kinds (rows_in rows.now) kinds.now }
+    ensures { verdict_in result ≡ held_fault (shapes_in numbers.now) (first_listed numbers.now) heap.now (rows_in rows.now) regs.now }
 {
     let start = Start {
         numbers,
         heap,
-        blocks,
+        blocks: Blocks { rows, kinds },
         regs,
     };
     start.check()
@@ -44,14 +47,10 @@ fn check_held<'a>(
     ensures { verdict_in result ≡ held_fault (shapes_in numbers.now) (first_listed numbers.now) heap.now (rows_in rows.now) regs.now }
 {
     if rows.len() < FEW {
-        return check_by(numbers, heap, Blocks { rows, kinds: &[] }, regs);
+        return check_by(numbers, heap, rows, &[], regs);
     }
     let kinds = kinds_of(rows);
-    let blocks = Blocks {
-        rows,
-        kinds: &kinds,
-    };
-    check_by(numbers, heap, blocks, regs)
+    check_by(numbers, heap, rows, &kinds, regs)
 }
 
 // Whether a start fits a listing's numbers: the first refusal, rows before fields before registers.
