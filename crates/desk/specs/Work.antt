@@ -1,5 +1,5 @@
 -- What is done over the words of lent buffers, by a number, for the code that makes room for them: 0 runs the code that the table is, any other starts the listing whose numbers are lent, over the block rows that the table is. Rooms decide what a call costs, and no answer.
-use Rattle.std.specs.Prelude.{ℕ, ◌*◌, ◌/◌, ◌%◌, ◌≤◌, ◌≡◌, Bool, true, false, List, eqb}
+use Rattle.std.specs.Prelude.{ℕ, ◌*◌, ◌/◌, ◌%◌, ◌≤◌, ◌≡◌, List, eqb, leb}
 use Rattle.choice.specs.Pick.{pick}
 use Rattle.machine.specs.Numbers.{CODE_WORDS, HEAP_WORDS}
 use Rattle.listing.specs.Parts.{items_in}
@@ -15,11 +15,13 @@ use Rattle.desk.specs.VansDesk.{serve_bytes}
 abbrev pub SMALL_WORDS : ℕ
 SMALL_WORDS = 64
 
--- the rooms that there are for a table and a heap, by their words: small ones, and a code's beside one of two heaps'
-unfoldable pub are_rooms : ℕ → ℕ → Bool
-are_rooms table heap =
-    pick (eqb table SMALL_WORDS) (eqb heap SMALL_WORDS)
-    (pick (eqb table CODE_WORDS) (pick (eqb heap CODE_WORDS) true (eqb heap HEAP_WORDS)) false)
+-- the words of the rooms for a table and a heap of so many bytes: the smallest of three pairs that both fit
+abbrev pub large_rooms : ℕ → ℕ × ℕ
+large_rooms heap = pick (leb heap (CODE_WORDS * 4)) (CODE_WORDS, CODE_WORDS) (CODE_WORDS, HEAP_WORDS)
+
+unfoldable pub rooms_for : ℕ → ℕ → ℕ × ℕ
+rooms_for table heap =
+    pick (leb table (SMALL_WORDS * 4)) (pick (leb heap (SMALL_WORDS * 4)) (SMALL_WORDS, SMALL_WORDS) (large_rooms heap)) (large_rooms heap)
 
 -- buffers of so many bytes are whole words, within the limits, and sixteen registers
 pub record Whole (table heap regs : ℕ) : Type 0 where

@@ -1,8 +1,9 @@
 -- Laws of the work over lent buffers for the proofs of its code: words that buffers were copied to fit, and each work is a case.
-use Rattle.std.specs.Prelude.{ℕ, ◌/◌, ◌≡◌, refl, List, ◌++◌, length, take, drop}
-use Rattle.std.proofs.Common.{arith, ◌∙◌}
+use Rattle.std.specs.Prelude.{ℕ, ◌*◌, ◌/◌, ◌<◌, ◌≤◌, ◌≡◌, refl, List, ◌++◌, length, take, drop, leb}
+use Rattle.std.proofs.Common.{arith, ◌∙◌, le-leb}
+use Rattle.std.proofs.lemmas.Bool.{lt-leb}
 use Rattle.std.proofs.Math.Path.{sym, ap, subst}
-use Rattle.choice.specs.Pick.{is_equal, not_equal}
+use Rattle.choice.specs.Pick.{is_true, is_false, is_equal, not_equal, each_way}
 use Rattle.std.specs.Borrow.{Bor}
 use Rattle.desk.specs.Bytes.{words_of}
 use Rattle.desk.specs.ByteLaws.{filled_length, filled_whole}
@@ -11,7 +12,29 @@ use Rattle.desk.specs.LentCall.{LentCall, lent_call}
 use Rattle.desk.specs.declared.buffers.Work.{Work}
 use Rattle.desk.specs.declared.buffers.Work.TheVariants.{Run, Start}
 use Rattle.desk.specs.Works.{work_number, numbers_for}
-use Rattle.desk.specs.Work.{Whole, Lent, Fitting, Ready, Meant, start_bytes, beside_code, work_of}
+use Rattle.machine.specs.Numbers.{CODE_WORDS, HEAP_WORDS}
+use Rattle.desk.specs.Work.{SMALL_WORDS, large_rooms, rooms_for, Whole, Lent, Fitting, Ready, Meant, start_bytes, beside_code, work_of}
+
+-- the rooms where one of the two buffers is not small
+module _ (table heap : ℕ) where
+  pub past_small_table : SMALL_WORDS * 4 < table → large_rooms heap ≡ rooms_for table heap
+  unfolding rooms_for
+  past_small_table h = is_false (leb table (SMALL_WORDS * 4)) _ _ _ (lt-leb table (SMALL_WORDS * 4) h) refl
+
+  pub past_small_heap : SMALL_WORDS * 4 < heap → large_rooms heap ≡ rooms_for table heap
+  unfolding rooms_for
+  past_small_heap h =
+      each_way (λ (v : ℕ × ℕ). large_rooms heap ≡ v) (leb table (SMALL_WORDS * 4)) _ _
+      (λ e. is_false (leb heap (SMALL_WORDS * 4)) _ _ _ (lt-leb heap (SMALL_WORDS * 4) h) refl)
+      (λ e. refl)
+
+-- are a code's, and one of two for the heap
+module _ (heap : ℕ) where
+  pub middle_rooms : heap ≤ CODE_WORDS * 4 → (CODE_WORDS, CODE_WORDS) ≡ large_rooms heap
+  middle_rooms h = is_true (leb heap (CODE_WORDS * 4)) _ _ _ (le-leb heap (CODE_WORDS * 4) h) refl
+
+  pub largest_rooms : CODE_WORDS * 4 < heap → (CODE_WORDS, HEAP_WORDS) ≡ large_rooms heap
+  largest_rooms h = is_false (leb heap (CODE_WORDS * 4)) _ _ _ (lt-leb heap (CODE_WORDS * 4) h) refl
 
 -- a heap in a room that is large enough
 pub heap_lent : (table regs : ℕ) (h h' heap : List ℕ) → Whole table (length heap) regs → h' ≡ words_of heap ++ drop (length heap / 4) h → Lent (length (take (length heap / 4) h')) (length heap) regs

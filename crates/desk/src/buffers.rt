@@ -1,11 +1,11 @@
 // Rooms for the words of lent buffers: a table, which is a code or the rows of blocks, and a heap. `Work`
 // says what is done over them.
-ghost use Rattle.std.specs.Prelude.{◌≡◌, ◌*◌, ◌^◌, ◌<◌, ◌≤◌, true, length};
+ghost use Rattle.std.specs.Prelude.{◌≡◌, ◌*◌, ◌^◌, ◌<◌, ◌≤◌, length};
 ghost use Rattle.desk.specs.Bytes.{words_of};
 ghost use Rattle.desk.specs.Loans.{left_in, SameBuffers, WholeLoan};
 ghost use Rattle.desk.specs.LentCall.{lent_call};
 ghost use Rattle.desk.specs.Done.{answer_in, Near};
-ghost use Rattle.desk.specs.Work.{Fitting, Whole, are_rooms, work_of};
+ghost use Rattle.desk.specs.Work.{Fitting, Whole, rooms_for, work_of};
 ghost use Rattle.desk.specs.Works.{MeantWork, numbers_for, work_number, work_on};
 
 use crate::answers::Done;
@@ -64,7 +64,7 @@ fn over_rooms<const TABLE: usize, const HEAP: usize>(
 ) -> Result<Done, Fault>
     requires table_room { TABLE < 2 ^ 61 }
     requires heap_room { HEAP < 2 ^ 61 }
-    requires rooms { are_rooms TABLE HEAP ≡ true }
+    requires smallest { (TABLE, HEAP) ≡ rooms_for (length table.now) (length heap.old) }
     requires table_in_bounds { length table.now ≤ TABLE * 4 }
     requires heap_in_bounds { length heap.old ≤ HEAP * 4 }
     requires whole { Whole (length table.now) (length heap.old) (length regs.old) }
@@ -92,6 +92,7 @@ fn over_rooms<const TABLE: usize, const HEAP: usize>(
 // In the smallest of three sizes that the buffers fit: clearing room for the largest heap takes longer than
 // a short run. Always inlined: called, it takes a loan apart that was just made, a tenth of a short run.
 #[inline(always)]
+#[tactic(auto, using(choice::specs::Pick::cases), unfolding(crate::specs::Work::rooms_for))]
 pub fn over_room(work: Work, loan: &mut Loan) -> Result<Done, Fault>
     requires whole { WholeLoan loan.old }
     requires meant { MeantWork work (length loan.old.out.now) }
